@@ -10,13 +10,13 @@ use text::Text;
 // A key keeps the FNV-1a word of its id, which chains and check words start from.
 #[derive(Clone, Copy)]
 pub struct Key {
-    pub(crate) kind: Kind,
-    pub(crate) id: Text<52>,
-    pub(crate) contract: u8,
-    pub(crate) venue: [u8; 4],
-    pub(crate) participant: [u8; 12],
-    pub(crate) side: Side,
-    pub(crate) word: u64,
+    pub kind: Kind,
+    pub id: Text<52>,
+    pub contract: u8,
+    pub venue: [u8; 4],
+    pub participant: [u8; 12],
+    pub side: Side,
+    pub word: u64,
     ghost listed: { contract < 64 },
     ghost kept: { word ≡ word-of (textOf id) },
 }

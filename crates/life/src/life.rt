@@ -11,9 +11,9 @@ pub enum State {
 // The time of the last accepted line, in seconds since 1970, and the quantity and price of the last New or Modify, in hundred-thousandths.
 #[derive(Clone, Copy)]
 pub struct Life {
-    pub(crate) state: State,
-    pub(crate) time: u32,
-    pub(crate) quantity: u64,
-    pub(crate) price: Option<i64>,
+    pub state: State,
+    pub time: u32,
+    pub quantity: u64,
+    pub price: Option<i64>,
     ghost bounded: { quantity ≤ 1000000000000 },
 }
