@@ -1,2 +1,4 @@
 pub mod Bytes
+pub mod Forms
+pub mod Rows
 pub mod Texts
