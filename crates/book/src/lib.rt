@@ -1,10 +1,18 @@
 // The book: what is held and answered, said by the capacity and the calls alone, and the laws over whole runs of it.
 // Each function's contract is one law.
 ghost use Rattle.book.specs.Cases.{«Cases-stand»};
+ghost use Rattle.book.specs.Laws.{«Tidy-law»};
 
 // The rules give the worked cases.
 pub fn cases_stand() -> u8
     ensures { λ _. ⌜ Cases-stand ⌝ }
+{
+    0
+}
+
+// No key twice, no more lives than the capacity, every judged line counted once and at most 1,000,000 in a file.
+pub fn books_stay_tidy() -> u8
+    ensures { λ _. ⌜ Tidy-law ⌝ }
 {
     0
 }
