@@ -1,2 +1,3 @@
+pub mod Deeds
 pub mod Tables
 pub mod Tidy

@@ -1,7 +1,7 @@
 // The book: what is held and answered, said by the capacity and the calls alone, and the laws over whole runs of it.
 // Each function's contract is one law.
 ghost use Rattle.book.specs.Cases.{«Cases-stand»};
-ghost use Rattle.book.specs.Laws.{«Tidy-law»};
+ghost use Rattle.book.specs.Laws.{«Life-law», «Tidy-law»};
 
 // The rules give the worked cases.
 pub fn cases_stand() -> u8
@@ -13,6 +13,13 @@ pub fn cases_stand() -> u8
 // No key twice, no more lives than the capacity, every judged line counted once and at most 1,000,000 in a file.
 pub fn books_stay_tidy() -> u8
     ensures { λ _. ⌜ Tidy-law ⌝ }
+{
+    0
+}
+
+// A key has a life exactly when its accepted lines end in a New with no Error after it, and the life is what those lines say.
+pub fn lives_stand() -> u8
+    ensures { λ _. ⌜ Life-law ⌝ }
 {
     0
 }
