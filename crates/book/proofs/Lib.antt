@@ -1,3 +1,4 @@
 pub mod Deeds
+pub mod Survivors
 pub mod Tables
 pub mod Tidy

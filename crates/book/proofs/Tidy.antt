@@ -56,7 +56,7 @@ contract-within cs bs h =
 
 -- ---- Files
 
-file-takes : (f : File) → first-fit taking-rows f ≡ None → (identified (f .stage) ≡ true) × (f .judged < judged-limit)
+pub file-takes : (f : File) → first-fit taking-rows f ≡ None → (identified (f .stage) ≡ true) × (f .judged < judged-limit)
 file-takes f e =
     let h = none-fits taking-rows f e in
     (not-false (identified (f .stage)) (h .0), leb-false judged-limit (f .judged) (h .1 .0))

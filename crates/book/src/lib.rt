@@ -1,7 +1,7 @@
 // The book: what is held and answered, said by the capacity and the calls alone, and the laws over whole runs of it.
 // Each function's contract is one law.
 ghost use Rattle.book.specs.Cases.{«Cases-stand»};
-ghost use Rattle.book.specs.Laws.{«Life-law», «Tidy-law»};
+ghost use Rattle.book.specs.Laws.{«Survivors-law», «Life-law», «Tidy-law»};
 
 // The rules give the worked cases.
 pub fn cases_stand() -> u8
@@ -20,6 +20,14 @@ pub fn books_stay_tidy() -> u8
 // A key has a life exactly when its accepted lines end in a New with no Error after it, and the life is what those lines say.
 pub fn lives_stand() -> u8
     ensures { λ _. ⌜ Life-law ⌝ }
+{
+    0
+}
+
+// Leaving out each refused line, and each line of a life that an accepted Error ended, changes nothing in the end: every line left is accepted,
+// and the lives are the same.
+pub fn survivors_stand() -> u8
+    ensures { λ _. ⌜ Survivors-law ⌝ }
 {
     0
 }
