@@ -2,3 +2,4 @@ pub mod Deeds
 pub mod Survivors
 pub mod Tables
 pub mod Tidy
+pub mod Totals

@@ -1,3 +1,4 @@
 pub mod Book
 pub mod Cases
 pub mod Laws
+pub mod Totals

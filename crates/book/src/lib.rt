@@ -2,6 +2,7 @@
 // Each function's contract is one law.
 ghost use Rattle.book.specs.Cases.{«Cases-stand»};
 ghost use Rattle.book.specs.Laws.{«Survivors-law», «Life-law», «Tidy-law»};
+ghost use Rattle.book.specs.Totals.{«Totals-law»};
 
 // The rules give the worked cases.
 pub fn cases_stand() -> u8
@@ -28,6 +29,13 @@ pub fn lives_stand() -> u8
 // and the lives are the same.
 pub fn survivors_stand() -> u8
     ensures { λ _. ⌜ Survivors-law ⌝ }
+{
+    0
+}
+
+// Lists with the same look-ups and no key twice have the same total, in any commutative group.
+pub fn totals_stand<V>() -> u8
+    ensures { λ _. ⌜ Totals-law V ⌝ }
 {
     0
 }
