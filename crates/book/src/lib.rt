@@ -1,12 +1,20 @@
 // The book: what is held and answered, said by the capacity and the calls alone, and the laws over whole runs of it.
 // Each function's contract is one law.
 ghost use Rattle.book.specs.Cases.{«Cases-stand»};
+ghost use Rattle.book.specs.Edges.{«Edges-stand»};
 ghost use Rattle.book.specs.Laws.{«Survivors-law», «Life-law», «Tidy-law»};
 ghost use Rattle.book.specs.Totals.{«Totals-law»};
 
 // The rules give the worked cases.
 pub fn cases_stand() -> u8
     ensures { λ _. ⌜ Cases-stand ⌝ }
+{
+    0
+}
+
+// They give each row of the tables, and each limit on both sides.
+pub fn edges_stand() -> u8
+    ensures { λ _. ⌜ Edges-stand ⌝ }
 {
     0
 }

@@ -6,5 +6,4 @@ use Rattle.book.proofs.cases_stand.Needs as need
 
 pub returns : need.returns
 unfolding code-form decimal-form name-form same-key
-returns c =
-    (refl, (refl, (refl, (refl, (refl, (refl, (refl, (refl, (refl, (refl, (refl, (refl, (refl, (refl, (refl, tt)))))))))))))))
+returns c = (refl, (refl, (refl, (refl, (refl, (refl, (refl, (refl, (refl, (refl, (refl, (refl, (refl, (refl, (refl, tt)))))))))))))))
