@@ -548,6 +548,12 @@ of-limits =
         ∷ [])
     ∷ []
 
+abbrev pub edges : List Case
+edges = of-forms ++ (of-lists ++ (of-lives ++ (of-files ++ of-limits)))
+
+abbrev pub Edges-stand : Type 0
+Edges-stand = All Stands edges
+
 -- ---- What is held afterwards
 
 -- a book, calls, and the lives and files that they end in
@@ -605,5 +611,5 @@ Survivors-example =
     ≡ line "TRD;U;;XBIL;C0643778W.EU;S;N;9;1;1;" ∷ line "TRD;T;;XBIL;C0643778W.EU;S;N;8;1;1;" ∷ line "TRD;U;;XBIL;C0643778W.EU;S;C;9;1;1;"
     ∷ Look-up [] ∷ Close 1 ∷ Total ∷ Close 0 ∷ []
 
-abbrev pub Edges-stand : Type 0
-Edges-stand = All Stands of-forms × All Stands of-lists × All Stands of-lives × All Stands of-files × All Stands of-limits × All Ends endings × Survivors-example
+abbrev pub Endings-stand : Type 0
+Endings-stand = All Ends endings × Survivors-example
