@@ -16,11 +16,51 @@ ghost use Rattle.book.specs.Laws.{a-line, Entry, struck, left-out, Survivors-l
 ghost use Rattle.book.specs.Totals.{while-open, Totals-law};
 use life::State;
 
+// ---- The laws, each proved on a function of its own
+
+fn cases_stand()
+    ensures { λ _. ⌜ Cases-stand ⌝ }
+{
+}
+
+fn edges_stand()
+    ensures { λ _. ⌜ Edges-stand ⌝ }
+{
+}
+
+fn endings_stand()
+    ensures { λ _. ⌜ Endings-stand ⌝ }
+{
+}
+
+fn books_stay_tidy()
+    ensures { λ _. ⌜ Tidy-law ⌝ }
+{
+}
+
+fn lives_stand()
+    ensures { λ _. ⌜ Life-law ⌝ }
+{
+}
+
+fn survivors_stand()
+    ensures { λ _. ⌜ Survivors-law ⌝ }
+{
+}
+
+fn totals_stand<V>()
+    ensures { λ _. ⌜ Totals-law V ⌝ }
+{
+}
+
+// ---- What the book's users call
+
 // How many worked cases there are. The rules give each of them.
 pub fn worked_cases() -> u8
     ensures all { λ r. ⌜ r ≡ length cases ⌝ }
     ensures stand { λ _. ⌜ Cases-stand ⌝ }
 {
+    cases_stand();
     15
 }
 
@@ -30,6 +70,8 @@ pub fn worked_edges() -> u8
     ensures stand { λ _. ⌜ Edges-stand ⌝ }
     ensures held { λ _. ⌜ Endings-stand ⌝ }
 {
+    edges_stand();
+    endings_stand();
     53
 }
 
@@ -39,6 +81,7 @@ pub fn most_lines() -> u32
     ensures limit { λ r. ⌜ r ≡ judged-limit ⌝ }
     ensures tidy { λ _. ⌜ Tidy-law ⌝ }
 {
+    books_stay_tidy();
     1_000_000
 }
 
@@ -48,6 +91,7 @@ pub fn state_since(cancel: bool) -> State
     ensures state { λ r. ⌜ ((ds : List Deed) → some-cancel ds ≡ cancel → r ≡ state-since ds) ⌝ }
     ensures life { λ _. ⌜ Life-law ⌝ }
 {
+    lives_stand();
     if cancel { State::Cancelled } else { State::Open }
 }
 
@@ -57,6 +101,7 @@ pub fn is_left_out(refused: bool, ended: bool) -> bool
     ensures rule { λ r. ⌜ ((es : List Entry) (k : Key-parts) (line : Reported) (v : Option (ℕ × ℕ)) → isSome v ≡ refused → struck k es ≡ ended → r ≡ left-out es (a-line k line) v) ⌝ }
     ensures law { λ _. ⌜ Survivors-law ⌝ }
 {
+    survivors_stand();
     refused || ended
 }
 
@@ -66,6 +111,7 @@ pub fn brings_weight<V>(state: State) -> bool
     ensures shares { λ r. ⌜ ((nil weight : V) → while-open nil state weight ≡ cond r weight nil) ⌝ }
     ensures totals { λ _. ⌜ Totals-law V ⌝ }
 {
+    totals_stand::<V>();
     match state {
         State::Open => true,
         State::Cancelled => false,
