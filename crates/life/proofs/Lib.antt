@@ -1,0 +1,2 @@
+pub mod KeyOrder
+pub mod Lookups
