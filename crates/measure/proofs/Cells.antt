@@ -55,20 +55,20 @@ one-elsewhere at v n h e = cell-one at v n h ∙ ap (λ b. cond b v 0 % 2 ^ 64) 
 pub raised : (x y : Sheet) (at v : ℕ) → at < 64 → y .cells ≡ set (x .cells) at ((cell x at + v) % 2 ^ 64) → y ≡ added x (one-cell at v)
 raised x y at v h e =
     sheet-is y (λ n. cell x n + cell (one-cell at v) n) (λ n q.
-      ap (λ l. getD l n 0) e ∙ ⊎-elim
-      (λ same.
-        let old : cell x n ≡ cell x at = ap (cell x) same in
-        set-at-same (x .cells) at _ n (omega (arith, x .whole)) same ∙ omega (arith, one-here at v n q same))
-      (λ other. getD-set-other (x .cells) at n _ 0 other ∙ omega (arith, x .fit n, one-elsewhere at v n q other))
-      (cases-eq n at))
+    ap (λ l. getD l n 0) e ∙ ⊎-elim
+    (λ same.
+    let old : cell x n ≡ cell x at = ap (cell x) same in
+    set-at-same (x .cells) at _ n (omega (arith, x .whole)) same ∙ omega (arith, one-here at v n q same))
+    (λ other. getD-set-other (x .cells) at n _ 0 other ∙ omega (arith, x .fit n, one-elsewhere at v n q other))
+    (cases-eq n at))
 
 pub one-negated : (at v w : ℕ) → v < 2 ^ 64 → w < 2 ^ 64 → (w + v) % 2 ^ 64 ≡ 0 → one-cell at w ≡ negated (one-cell at v)
 one-negated at v w h g e =
     sheet-is (one-cell at w) (λ n. 2 ^ 64 - cell (one-cell at v) n) (λ n q.
-      ⊎-elim
-      (λ same. omega (arith, one-here at v n q same, one-here at w n q same))
-      (λ other. omega (arith, one-elsewhere at v n q other, one-elsewhere at w n q other))
-      (cases-eq n at))
+    ⊎-elim
+    (λ same. omega (arith, one-here at v n q same, one-here at w n q same))
+    (λ other. omega (arith, one-elsewhere at v n q other, one-elsewhere at w n q other))
+    (cases-eq n at))
 
 -- ---- The weight of a life
 
@@ -82,7 +82,7 @@ residue-cond false z = omega arith
 
 -- one cell, that of the contract
 pub weight-is : (key : Key-parts) (life : Life-parts) →
-  sheet-weight key life ≡ one-cell (key .of-contract) (residue (traded (key .of-kind) (key .of-side) (life .with-quantity)))
+    sheet-weight key life ≡ one-cell (key .of-contract) (residue (traded (key .of-kind) (key .of-side) (life .with-quantity)))
 weight-is key life =
     let z = traded (key .of-kind) (key .of-side) (life .with-quantity) in
     sheet-is (sheet-weight key life) (λ n. cond (eqb n (key .of-contract)) (residue z) 0)

@@ -7,7 +7,7 @@ use Prim.Native.Nat.{ℕ, zero, suc, _+_, _-_, _*_, _%_, _^_, _<_, _≤_}
 use native.Mathlib.Omega.{arith}
 use lib.Dec.{eqb}
 use lib.IntN.{ℤ, pos, negsuc, _+ℤ_, negℤ}
-use lib.ListN.{length}
+use lib.ListN.{length, length-map}
 use mir.Val.{toZ}
 use mir.Syntax.{w64}
 use Rattle.std.specs.shelf.Lists.{All}
@@ -24,11 +24,11 @@ use Rattle.life.specs.declared.life.State.the-variants.{Open, Cancelled}
 use Rattle.life.specs.Parts.{Key-parts, Life-parts}
 use Rattle.measure.specs.declared.sheet.Sheet.{Sheet}
 use Rattle.measure.specs.Group.{Group}
-use Rattle.measure.specs.Lives.{Pair, Lives, plain, Unique, Same}
+use Rattle.measure.specs.Lives.{Pair, Lives, plain-pair, plain, Unique, Same}
 use Rattle.measure.specs.Totals.{while-open, share, total-of}
 use Rattle.measure.specs.Positions.{traded, brought, true-position, Within}
 use Rattle.measure.specs.Sheets.{cell, position-of, no-sheet, added, residue, sheet-weight}
-use Rattle.measure.specs.Laws.{cell-sheet}
+use Rattle.measure.specs.Laws.{cell-sheet, sheet-group}
 use Rattle.measure.proofs.Cells.{cell-past, cell-added, cell-none, residue-minus}
 use Rattle.measure.proofs.Sums.{total-same}
 
@@ -84,17 +84,18 @@ weight-stands n p w =
     let z = traded (p .0 .of-kind) (p .0 .of-side) (p .1 .with-quantity) in
     ⊎-elim
     (λ h. rw (cell-sheet (λ i. residue (brought i (p .0) (p .1))) n h)
-      (elim (eqb n at) as (λ b. Stands-for (residue (cond b z (pos 0)) % 2 ^ 64) (cond b z (pos 0)) most)
-        [ true ↦ traded-stands (p .0 .of-kind) (p .0 .of-side) (p .1 .with-quantity) (w .bounded)
-        | false ↦ nothing _ most (omega arith) ]))
+    (elim (eqb n at) as (λ b. Stands-for (residue (cond b z (pos 0)) % 2 ^ 64) (cond b z (pos 0)) most) [
+      | true ↦ traded-stands (p .0 .of-kind) (p .0 .of-side) (p .1 .with-quantity) (w .bounded)
+      | false ↦ nothing _ most (omega arith)
+    ]))
     (λ h. rw (ne-eqb n at (λ e. omega (arith, w .listed))) (nothing _ most (cell-past (sheet-weight (p .0) (p .1)) n h)))
     (cases-lt n 64)
 
 share-stands : (n : ℕ) (p : Pair) → Within p →
-  Stands-for (cell (share no-sheet sheet-weight (p .0) (p .1)) n) (share (pos 0) (brought n) (p .0) (p .1)) most
+    Stands-for (cell (share no-sheet sheet-weight (p .0) (p .1)) n) (share (pos 0) (brought n) (p .0) (p .1)) most
 share-stands n p w =
     elim (p .1 .in-state) as (λ s. Stands-for (cell (while-open no-sheet s (sheet-weight (p .0) (p .1))) n) (while-open (pos 0) s (brought n (p .0) (p .1))) most)
-      [ Open ↦ weight-stands n p w | Cancelled ↦ nothing _ most (cell-none n) ]
+    [ Open ↦ weight-stands n p w | Cancelled ↦ nothing _ most (cell-none n) ]
 
 all-stand : (n : ℕ) (ps : Lives) → All Within ps → Stands-for (cell (total-of no-sheet added sheet-weight ps) n) (true-position n ps) (length ps * most)
 all-stand n [] w = nothing _ _ (cell-none n)
@@ -103,7 +104,7 @@ all-stand n (p ∷ ps) w =
     let t = total-of no-sheet added sheet-weight ps in
     looser _ _ (most + length ps * most) (length (p ∷ ps) * most) (omega arith)
     (joins (cell x n) (cell t n) (share (pos 0) (brought n) (p .0) (p .1)) (true-position n ps) most (length ps * most) _
-      (share-stands n p (w .0)) (all-stand n ps (w .1)) (cell-added x t n))
+    (share-stands n p (w .0)) (all-stand n ps (w .1)) (cell-added x t n))
 
 -- ---- For those who tell positions
 
@@ -118,12 +119,8 @@ pub plain-within : (ps : List (Key × Life)) → All Within (plain ps)
 plain-within [] = tt
 plain-within (p ∷ ps) = (record { listed = p .0 .listed; bounded = p .1 .bounded }, plain-within ps)
 
-pub plain-length : (ps : List (Key × Life)) → length (plain ps) ≡ length ps
-plain-length [] = refl
-plain-length (p ∷ ps) = ap suc (plain-length ps)
-
 pub exact-plain : (n : ℕ) (ps : List (Key × Life)) → length ps ≤ 65535 → (s : Sheet) → s ≡ total-of no-sheet added sheet-weight (plain ps) → position-of s n ≡ true-position n (plain ps)
-exact-plain n ps few s e = exact n (plain ps) (omega (arith, plain-length ps)) (plain-within ps) s e
+exact-plain n ps few s e = exact n (plain ps) (omega (arith, length-map ps plain-pair)) (plain-within ps) s e
 
 integers : Group (pos 0) _+ℤ_ negℤ
 integers = record {
@@ -136,3 +133,9 @@ integers = record {
 -- true positions do not depend on the order of a list
 pub position-same : (n : ℕ) (ps qs : Lives) → Unique ps → Unique qs → Same ps qs → true-position n ps ≡ true-position n qs
 position-same n = total-same integers (brought n)
+
+-- for a list with the look-ups of the pairs that code holds
+pub exact-as : (n : ℕ) (ps : List (Key × Life)) (ls : Lives) → length ps ≤ 65535 → Unique (plain ps) → Unique ls → Same (plain ps) ls →
+    (s : Sheet) → s ≡ total-of no-sheet added sheet-weight ls → position-of s n ≡ true-position n ls
+exact-as n ps ls few u w h s e =
+    exact-plain n ps few s (e ∙ sym (total-same sheet-group sheet-weight (plain ps) ls u w h)) ∙ position-same n (plain ps) ls u w h

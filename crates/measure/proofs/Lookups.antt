@@ -56,8 +56,8 @@ unique-erase k (p ∷ ps) u =
     cond-both (same-key k (p .0)) (erase k ps) (p ∷ erase k ps) Unique
     (λ _. unique-erase k ps (q .1))
     (λ _. unique-from p (erase k ps)
-      (look-erase (p .0) k ps ∙ ap (cond (same-key (p .0) k) None) (q .0) ∙ cond-same _ None)
-      (unique-erase k ps (q .1)))
+    (look-erase (p .0) k ps ∙ ap (cond (same-key (p .0) k) None) (q .0) ∙ cond-same _ None)
+    (unique-erase k ps (q .1)))
 
 -- what is left of two lists when the first pair of one is taken out of both
 pub same-rest : (p : Pair) (ps qs : Lives) → Unique (p ∷ ps) → Same (p ∷ ps) qs → Same ps (erase (p .0) qs)

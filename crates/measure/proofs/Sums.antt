@@ -64,13 +64,13 @@ module _ {V : Type 0} {nil : V} {joined : V → V → V} {inverse : V → V} (G 
 
     -- a life comes, wherever it stands
     pub total-come : (ps : Lives) (k : Key-parts) (l : Life-parts) (qs : Lives) →
-      joined (total (ps ++ qs)) (share nil weight k l) ≡ total (ps ++ (k, l) ∷ qs)
+        joined (total (ps ++ qs)) (share nil weight k l) ≡ total (ps ++ (k, l) ∷ qs)
     total-come [] k l qs = G .comm _ _
     total-come (p ∷ ps) k l qs = G .assoc _ _ _ ∙ ap (joined (share nil weight (p .0) (p .1))) (total-come ps k l qs)
 
     -- one pair more of the list that code goes through
     pub total-next : (xs : List (Key × Life)) (i : ℕ) (d : Key × Life) → i < length xs →
-      joined (total (plain (take i xs))) (share nil weight (key-parts (getD xs i d .0)) (life-parts (getD xs i d .1))) ≡ total (plain (take (i + 1) xs))
+        joined (total (plain (take i xs))) (share nil weight (key-parts (getD xs i d .0)) (life-parts (getD xs i d .1))) ≡ total (plain (take (i + 1) xs))
     total-next xs i d h =
         let here = plain (take i xs) in
         let k = key-parts (getD xs i d .0) in
@@ -81,22 +81,22 @@ module _ {V : Type 0} {nil : V} {joined : V → V → V} {inverse : V → V} (G 
 
     -- the life of a key altered: its new share, and all others
     total-altered : (k : Key-parts) (f : Life-parts → Life-parts) (ps : Lives) → Unique ps →
-      total (altered k f ps) ≡ joined (value k (mapped f (look k ps))) (total (erase k ps))
+        total (altered k f ps) ≡ joined (value k (mapped f (look k ps))) (total (erase k ps))
     total-altered k f [] u = sym (G .unit nil)
     total-altered k f (p ∷ ps) u =
         let once = unique-parts p ps u in
         let rest : total (altered k f ps) ≡ joined (value k (mapped f (look k ps))) (total (erase k ps)) = total-altered k f ps (once .1) in
         let Goal : Bool → Type 0 = λ b.
-          joined (share nil weight (p .0) (cond b (f (p .1)) (p .1))) (total (altered k f ps))
-          ≡ joined (value k (mapped f (cond b (Some (p .1)) (look k ps)))) (total (cond b (erase k ps) (p ∷ erase k ps))) in
+        joined (share nil weight (p .0) (cond b (f (p .1)) (p .1))) (total (altered k f ps))
+        ≡ joined (value k (mapped f (cond b (Some (p .1)) (look k ps)))) (total (cond b (erase k ps) (p ∷ erase k ps))) in
         ⊎-elim
         (λ e.
-          let here : k ≡ p .0 = key-eq k (p .0) e in
-          let gone : look k ps ≡ None = ap (λ x. look x ps) here ∙ once .0 in
-          subst Goal (sym e)
-          (ap (λ x. joined (share nil weight x (f (p .1))) (total (altered k f ps))) (sym here)
-            ∙ ap (joined (share nil weight k (f (p .1))))
-              (rest ∙ ap (λ o. joined (value k (mapped f o)) (total (erase k ps))) gone ∙ G .unit _)))
+        let here : k ≡ p .0 = key-eq k (p .0) e in
+        let gone : look k ps ≡ None = ap (λ x. look x ps) here ∙ once .0 in
+        subst Goal (sym e)
+        (ap (λ x. joined (share nil weight x (f (p .1))) (total (altered k f ps))) (sym here)
+        ∙ ap (joined (share nil weight k (f (p .1))))
+        (rest ∙ ap (λ o. joined (value k (mapped f o)) (total (erase k ps))) gone ∙ G .unit _)))
         (λ e. subst Goal (sym e) (ap (joined (share nil weight (p .0) (p .1))) rest ∙ past _ _ _))
         (cases-bool (same-key k (p .0)))
 
@@ -109,15 +109,15 @@ module _ {V : Type 0} {nil : V} {joined : V → V → V} {inverse : V → V} (G 
 
     -- the life of a key goes
     pub total-go : (k : Key-parts) (l : Life-parts) (ps : Lives) → Unique ps → look k ps ≡ Some l →
-      joined (total ps) (inverse (share nil weight k l)) ≡ total (erase k ps)
+        joined (total ps) (inverse (share nil weight k l)) ≡ total (erase k ps)
     total-go k l ps u e =
         ap (λ t. joined t (inverse (share nil weight k l)))
-          (total-split k ps u ∙ ap (λ o. joined (value k o) (total (erase k ps))) e ∙ G .comm _ _)
+        (total-split k ps u ∙ ap (λ o. joined (value k o) (total (erase k ps))) e ∙ G .comm _ _)
         ∙ undone _ _
 
     -- the life of a key is altered
     pub total-replace : (k : Key-parts) (old new : Life-parts) (f : Life-parts → Life-parts) (ps : Lives) → Unique ps → look k ps ≡ Some old → f old ≡ new →
-      joined (joined (total ps) (inverse (share nil weight k old))) (share nil weight k new) ≡ total (altered k f ps)
+        joined (joined (total ps) (inverse (share nil weight k old))) (share nil weight k new) ≡ total (altered k f ps)
     total-replace k old new f ps u e is =
         ap (λ t. joined t (share nil weight k new)) (total-go k old ps u e)
         ∙ G .comm _ _
@@ -128,15 +128,15 @@ module _ {V : Type 0} {nil : V} {joined : V → V → V} {inverse : V → V} (G 
 
     module _ (t t′ : V) (k : Key-parts) where
       pub came : (l : Life-parts) → t′ ≡ joined t (share nil weight k l) →
-        (ps qs : Lives) → t ≡ total (ps ++ qs) → t′ ≡ total (ps ++ (k, l) ∷ qs)
+          (ps qs : Lives) → t ≡ total (ps ++ qs) → t′ ≡ total (ps ++ (k, l) ∷ qs)
       came l is ps qs e = is ∙ ap (λ s. joined s (share nil weight k l)) e ∙ total-come ps k l qs
 
       pub went : (l : Life-parts) → t′ ≡ joined t (inverse (share nil weight k l)) →
-        (ps : Lives) → Unique ps → look k ps ≡ Some l → t ≡ total ps → t′ ≡ total (erase k ps)
+          (ps : Lives) → Unique ps → look k ps ≡ Some l → t ≡ total ps → t′ ≡ total (erase k ps)
       went l is ps u found e = is ∙ ap (λ s. joined s (inverse (share nil weight k l))) e ∙ total-go k l ps u found
 
       pub changed : (old new : Life-parts) → t′ ≡ joined (joined t (inverse (share nil weight k old))) (share nil weight k new) →
-        (ps : Lives) (f : Life-parts → Life-parts) → Unique ps → look k ps ≡ Some old → f old ≡ new → t ≡ total ps → t′ ≡ total (altered k f ps)
+          (ps : Lives) (f : Life-parts → Life-parts) → Unique ps → look k ps ≡ Some old → f old ≡ new → t ≡ total ps → t′ ≡ total (altered k f ps)
       changed old new is ps f u found so e =
           is
           ∙ ap (λ s. joined (joined s (inverse (share nil weight k old))) (share nil weight k new)) e

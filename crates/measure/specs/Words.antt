@@ -1,9 +1,7 @@
 -- The check word: FNV-1a words of lives, joined by exclusive or.
-use mathlib.Core.Path.{_≡_}
-use mathlib.Core.List.{List, [], _∷_, _++_}
+use mathlib.Core.List.{[], _∷_, _++_}
 use Prim.Native.Nat.{ℕ, _/_, _%_}
 use lib.Bits.{bitXor}
-use lib.Chars.{codes}
 use lib.IntN.{ℤ}
 use mir.Val.{ofZ}
 use mir.Syntax.{w64}
@@ -74,16 +72,3 @@ same-word x = x
 
 abbrev pub word-weight : Key-parts → Life-parts → CheckWord
 word-weight key life = check-word (word-of (bytes-of key life))
-
--- ---- Published words of texts
-
-abbrev pub vectors : List (Bytes × ℕ)
-vectors =
-    (codes "", 0xcbf29ce484222325)
-    ∷ (codes "a", 0xaf63dc4c8601ec8c)
-    ∷ (codes "b", 0xaf63df4c8601f1a5)
-    ∷ (codes "foobar", 0x85944171f73967e8)
-    ∷ []
-
-abbrev pub Stands : Bytes × ℕ → Type 0
-Stands v = word-of (v .0) ≡ v .1

@@ -37,7 +37,10 @@ pub impl<A: Measure, B: Measure> Measure for Both<A, B> as BothMeasure {
     ghost laws = { both-group (A·Measure .laws) (B·Measure .laws) };
 
     fn zero() -> Both<A, B> {
-        Both { first: A::zero(), second: B::zero() }
+        Both {
+            first: A::zero(),
+            second: B::zero(),
+        }
     }
 
     fn join(&mut self, other: &Both<A, B>) {
@@ -51,7 +54,10 @@ pub impl<A: Measure, B: Measure> Measure for Both<A, B> as BothMeasure {
     }
 
     fn weigh(key: &Key, life: &Life) -> Both<A, B> {
-        Both { first: A::weigh(key, life), second: B::weigh(key, life) }
+        Both {
+            first: A::weigh(key, life),
+            second: B::weigh(key, life),
+        }
     }
 
     fn put(&mut self, key: &Key, life: &Life) {

@@ -5,6 +5,7 @@ mod positions;
 mod sheet;
 mod total;
 mod word;
+
 pub use both::Both;
 pub use both::BothMeasure;
 pub use measure::Measure;

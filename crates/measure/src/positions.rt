@@ -28,7 +28,11 @@ impl Sheet {
         ensures kept { λ r. ⌜ ((ps : List (Key × Life)) → length ps ≤ 65535 → now (self .entry) ≡ total-of no-sheet added sheet-weight (plain ps) → r ≡ true-position contract (plain ps)) ⌝ }
     {
         let at = contract as usize;
-        if at < CELLS { self.cells[at].cast_signed() } else { 0 }
+        if at < CELLS {
+            self.cells[at].cast_signed()
+        } else {
+            0
+        }
     }
 
     // Adds `value` to the cell `at`.
@@ -76,11 +80,13 @@ pub impl Measure for Sheet as SheetMeasure {
 
     // One cell, not all.
     fn put(&mut self, key: &Key, life: &Life) {
-        self.raise(key.contract, signed_quantity(key.kind, key.side, life.quantity));
+        let value = signed_quantity(key.kind, key.side, life.quantity);
+        self.raise(key.contract, value);
     }
 
     fn take(&mut self, key: &Key, life: &Life) {
-        self.raise(key.contract, signed_quantity(key.kind, key.side, life.quantity).wrapping_neg());
+        let value = signed_quantity(key.kind, key.side, life.quantity);
+        self.raise(key.contract, value.wrapping_neg());
     }
 }
 

@@ -1,8 +1,10 @@
 // The check word.
 ghost use mathlib.Core.Path.{_≡_};
+ghost use mathlib.Core.List.{_++_};
 ghost use Rattle.std.specs.shelf.Lists.{All};
 ghost use Rattle.life.specs.Fnv.{word-of};
-ghost use Rattle.measure.specs.Words.{no-word, xored, same-word, word-weight, check-word, kind-byte, side-byte, price-word, vectors, Stands};
+ghost use Rattle.measure.specs.Words.{no-word, xored, same-word, word-weight, check-word, kind-byte, side-byte, price-word};
+ghost use Rattle.measure.specs.Examples.{Stands, published, worked};
 ghost use Rattle.measure.specs.Laws.{word-group};
 use crate::measure::Measure;
 use life::Key;
@@ -18,10 +20,10 @@ pub struct CheckWord {
 }
 
 impl CheckWord {
-    // The word of some bytes. Published words stand as examples.
+    // The word of some bytes. Published words and those of two lives stand as examples.
     pub fn of(bytes: &[u8]) -> CheckWord
         ensures is { λ r. ⌜ r ≡ check-word (word-of (now (bytes .entry))) ⌝ }
-        ensures published { λ _. ⌜ All Stands vectors ⌝ }
+        ensures examples { λ _. ⌜ All Stands (published ++ worked) ⌝ }
     {
         CheckWord { word: hash(bytes) }
     }
@@ -46,16 +48,20 @@ pub impl Measure for CheckWord as CheckWordMeasure {
         self.word ^= other.word;
     }
 
-    fn invert(&mut self) {}
+    fn invert(&mut self) {
+        // Each word is its own inverse.
+    }
 
     // Goes on from the word of the id, which the key keeps.
     fn weigh(key: &Key, life: &Life) -> CheckWord {
         let id = hash_on(key.word, &[0x3B]);
         let participant = hash_on(id, &key.participant);
         let venue = hash_on(participant, &key.venue);
-        let marks = hash_on(venue, &[kind_mark(key.kind), side_mark(key.side), key.contract]);
-        let quantity = hash_on(marks, &life.quantity.to_le_bytes());
-        CheckWord { word: hash_on(quantity, &price_bits(life.price).to_le_bytes()) }
+        let marks = [kind_mark(key.kind), side_mark(key.side), key.contract];
+        let marked = hash_on(venue, &marks);
+        let quantity = hash_on(marked, &life.quantity.to_le_bytes());
+        let word = hash_on(quantity, &price_bits(life.price).to_le_bytes());
+        CheckWord { word }
     }
 }
 

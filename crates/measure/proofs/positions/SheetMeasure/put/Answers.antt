@@ -8,4 +8,4 @@ pub returns : need.returns
 returns c =
     let key = c .args .key .now in
     c .raise .ensures
-    ∙ ap (added (c .args .self .now)) (ap (one-cell (key .contract)) (c .signed-quantity .ensures) ∙ sym (weight-is (key-parts key) (life-parts (c .args .life .now))))
+    ∙ ap (added (c .args .self .now)) (ap (one-cell (key .contract)) (c .signed-quantity-value .ensures) ∙ sym (weight-is (key-parts key) (life-parts (c .args .life .now))))

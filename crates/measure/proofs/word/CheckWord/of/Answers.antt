@@ -5,4 +5,4 @@ use Rattle.measure.proofs.word.CheckWord.of.Needs as need
 
 pub returns : need.returns
 unfolding word-of
-returns c = record { is = ap check-word (c .hash .ensures); published = (refl, (refl, (refl, (refl, tt)))) }
+returns c = record { is = ap check-word (c .hash .ensures); examples = (refl, (refl, (refl, (refl, (refl, (refl, tt)))))) }

@@ -16,8 +16,8 @@ returns c =
     let id = word-more (textOf (key .id)) (0x3B ∷ []) (key .kept) (c .hash-on-id .ensures) in
     let participant = word-more _ (key .participant) id (c .hash-on-participant .ensures) in
     let venue = word-more _ (key .venue) participant (c .hash-on-venue .ensures) in
-    let mark = word-more _ marks venue (c .hash-on-marks .ensures ∙ ap (fnv (c .hash-on-venue .result)) marked) in
-    let quantity = word-more _ (low-first (life .quantity)) mark (c .hash-on-quantity .ensures ∙ ap (fnv (c .hash-on-marks .result)) (c .to-le-bytes .ensures)) in
+    let mark = word-more _ marks venue (c .hash-on-marked .ensures ∙ ap (fnv (c .hash-on-venue .result)) marked) in
+    let quantity = word-more _ (low-first (life .quantity)) mark (c .hash-on-quantity .ensures ∙ ap (fnv (c .hash-on-marked .result)) (c .to-le-bytes .ensures)) in
     let price = word-more _ (low-first (price-word (life .price))) quantity
-        (c .hash-on .ensures ∙ ap (fnv (c .hash-on-quantity .result)) (c .to-le-bytes-2 .ensures ∙ ap low-first (c .price-bits .ensures))) in
+    (c .hash-on-word .ensures ∙ ap (fnv (c .hash-on-quantity .result)) (c .to-le-bytes-2 .ensures ∙ ap low-first (c .price-bits .ensures))) in
     ap check-word price
