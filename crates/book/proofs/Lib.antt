@@ -1,0 +1,5 @@
+pub mod Deeds
+pub mod Survivors
+pub mod Tables
+pub mod Tidy
+pub mod Totals

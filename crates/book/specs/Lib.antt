@@ -1,0 +1,5 @@
+pub mod Book
+pub mod Cases
+pub mod Edges
+pub mod Laws
+pub mod Totals

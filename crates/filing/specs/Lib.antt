@@ -1,0 +1,3 @@
+pub mod Entities
+pub mod Files
+pub mod Names

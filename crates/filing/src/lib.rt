@@ -1,0 +1,1 @@
+// Reporting entities, file names, and the files that lines are judged in.
