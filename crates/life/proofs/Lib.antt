@@ -1,1 +1,3 @@
+pub mod KeyOrder
 pub mod Lives
+pub mod Lookups

@@ -1,0 +1,4 @@
+pub mod Cuts
+pub mod Fields
+pub mod Reports
+pub mod Stages

@@ -1,0 +1,7 @@
+pub mod Keys
+pub mod Lookups
+pub mod Sums
+pub mod Halves
+pub mod Cells
+pub mod Exact
+pub mod Hashes
