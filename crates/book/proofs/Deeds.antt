@@ -115,8 +115,8 @@ from-told : (ds : List Deed) (o : Option Life-parts) (life : Life-parts) → Tel
 from-told ds o life s =
     rw (s .parts)
     (traced-append (s .before) (Did New (s .new-time) (s .new-quantity) (s .new-price) ∷ s .since) o
-        ∙ traced-changed (s .since) (new-life (s .new-time) (s .new-quantity) (s .new-price)) (s .goes-on)
-        ∙ ap Some (rw (← s .its-state, ← s .its-time, ← s .its-quantity, ← s .its-price)))
+    ∙ traced-changed (s .since) (new-life (s .new-time) (s .new-quantity) (s .new-price)) (s .goes-on)
+    ∙ ap Some (rw (← s .its-state, ← s .its-time, ← s .its-quantity, ← s .its-price)))
 
 -- the lines went on from a life that was there
 abbrev Went-on : Option Life-parts → List Deed → Life-parts → Type 0
@@ -124,7 +124,13 @@ Went-on o ds life = (y : Life-parts) × (o ≡ Some y) × All Goes-on ds × (lif
 
 new-told : (t q : ℕ) (p : Option ℤ) (ds : List Deed) (o : Option Life-parts) (life : Life-parts) → Went-on (made New t q p o) ds life → Tells (Did New t q p ∷ ds) life
 new-told t q p ds o life w = record {
-  before = []; new-time = t; new-quantity = q; new-price = p; since = ds; parts = refl; goes-on = w .2;
+  before = [];
+  new-time = t;
+  new-quantity = q;
+  new-price = p;
+  since = ds;
+  parts = refl;
+  goes-on = w .2;
   its-state = grind (arith, w .1, w .3);
   its-time = grind (arith, w .1, w .3);
   its-quantity = grind (arith, w .1, w .3);
@@ -138,9 +144,17 @@ to-told (Did a t q p ∷ ds) o life e = go a o (to-told ds (made a t q p o) life
   where
     go : (a : Action) (o : Option Life-parts) → Tells ds life ⊎ Went-on (made a t q p o) ds life → Tells (Did a t q p ∷ ds) life ⊎ Went-on o (Did a t q p ∷ ds) life
     go a o (inl s) = inl (record {
-      before = Did a t q p ∷ s .before; new-time = s .new-time; new-quantity = s .new-quantity; new-price = s .new-price; since = s .since;
-      parts = ap (λ zs. Did a t q p ∷ zs) (s .parts); goes-on = s .goes-on;
-      its-state = s .its-state; its-time = s .its-time; its-quantity = s .its-quantity; its-price = s .its-price;
+      before = Did a t q p ∷ s .before;
+      new-time = s .new-time;
+      new-quantity = s .new-quantity;
+      new-price = s .new-price;
+      since = s .since;
+      parts = ap (λ zs. Did a t q p ∷ zs) (s .parts);
+      goes-on = s .goes-on;
+      its-state = s .its-state;
+      its-time = s .its-time;
+      its-quantity = s .its-quantity;
+      its-price = s .its-price;
     })
     go New o (inr w) = inl (new-told t q p ds o life w)
     go Modify (Some z) (inr w) = inr (z, refl, (tt, w .2), cc (w .1, w .3))
@@ -150,9 +164,10 @@ to-told (Did a t q p ∷ ds) o life e = go a o (to-told ds (made a t q p o) life
     go Error o (inr w) = absurd (grind (arith, w .1))
 
 pub life-law : Life-law
-life-law capacity calls k life =
-    (λ e. to (to-told (deeds k (log (empty-book capacity) calls)) None life (sym (run-traces calls (empty-book capacity) k) ∙ e)),
-    λ s. run-traces calls (empty-book capacity) k ∙ from-told _ None life s)
+life-law capacity calls k life = (
+  λ e. to (to-told (deeds k (log (empty-book capacity) calls)) None life (sym (run-traces calls (empty-book capacity) k) ∙ e)),
+  λ s. run-traces calls (empty-book capacity) k ∙ from-told _ None life s,
+)
   where
     to : Tells (deeds k (log (empty-book capacity) calls)) life ⊎ Went-on None (deeds k (log (empty-book capacity) calls)) life → Tells (deeds k (log (empty-book capacity) calls)) life
     to (inl s) = s

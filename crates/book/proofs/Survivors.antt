@@ -172,12 +172,12 @@ line-too : (n : ℕ) (bs : Bytes) (keep : Key-parts → Bool) (b b′ : Book) �
 line-too n bs keep b b′ s spare p =
     let told-too : told-by (b′ .contracts) bs ≡ told-by (b .contracts) bs = ap (λ cs. told-by cs bs) (s .contracts-too) in
     let held-too : claimed (b′ .lives) (told-by (b′ .contracts) bs) ≡ claimed (b .lives) (told-by (b .contracts) bs) =
-            ap (claimed (b′ .lives)) told-too ∙ claimed-too (b′ .lives) (b .lives) (told-by (b .contracts) bs)
-            (ap (look (key-of (told-by (b .contracts) bs))) (s .lives-kept) ∙ look-kept keep (key-of (told-by (b .contracts) bs)) spare (b .lives)) in
+    ap (claimed (b′ .lives)) told-too ∙ claimed-too (b′ .lives) (b .lives) (told-by (b .contracts) bs)
+    (ap (look (key-of (told-by (b .contracts) bs))) (s .lives-kept) ∙ look-kept keep (key-of (told-by (b .contracts) bs)) spare (b .lives)) in
     let full : is-full b′ ≡ true → is-full b ≡ true =
-            λ h. le-leb _ _ (omega (arith, leb-true _ _ h, s .as-large, length-kept keep (b .lives), ap length (s .lives-kept))) in
+    λ h. le-leb _ _ (omega (arith, leb-true _ _ h, s .as-large, length-kept keep (b .lives), ap length (s .lives-kept))) in
     let room : (is-new (told-by (b .contracts) bs .says .action) && is-full b′) ≡ false =
-            room-too (told-by (b .contracts) bs .says .action) (is-full b) (is-full b′) full (none-fits room-rows (asked b n bs) (p .has-room) .0) in
+    room-too (told-by (b .contracts) bs .says .action) (is-full b) (is-full b′) full (none-fits room-rows (asked b n bs) (p .has-room) .0) in
     record {
       takes = takes-too _ _ (like-at (b .files) (b′ .files) n (s .files-too)) (p .takes);
       reads = p .reads;
@@ -248,7 +248,7 @@ line-follows n bs cs ih b b′ None e s = go (struck k es) refl
     go false h =
         carry n bs _ _ b′ (passes b′ n bs (line-too n bs (spared es) b b′ s (rw h) (passed b n bs e)))
         (ih (done b c) (done b′ c) (taken-too (spared es) (spared rest) n _ _ b b′ ls _ s (fewer-both _ _ like)
-            (same ∙ line-carried (x .says .action) k (x .says .time) (x .says .quantity) (x .says .price) rest (b .lives) h)))
+        (same ∙ line-carried (x .says .action) k (x .says .time) (x .says .quantity) (x .says .price) rest (b .lives) h)))
 
 -- ---- The other calls: both books answer the same, and stay side by side
 
@@ -263,36 +263,59 @@ like-staged : (to : Stage) (n : ℕ) (keep : Key-parts → Bool) (b b′ : Book)
 like-staged to n keep b b′ s = like-files keep b b′ _ _ s (like-set (b .files) (b′ .files) n _ _ (fewer-staged to _ _ (like-at (b .files) (b′ .files) n (s .files-too))) (s .files-too))
 
 go-entity : (bs : Bytes) → Both-go (Add-entity bs)
-go-entity bs keep b b′ s = (rw (s .entities-too), λ v. elim v as (λ v. Shadow keep (changed b (Add-entity bs) v) (changed b′ (Add-entity bs) v)) [
-    None ↦ record { as-large = s .as-large; entities-too = ap (λ xs. xs ++ bs ∷ []) (s .entities-too); contracts-too = s .contracts-too; files-too = s .files-too; lives-kept = s .lives-kept }
-    | Some r ↦ s ])
+go-entity bs keep b b′ s = (
+  rw (s .entities-too),
+  λ v. elim v as (λ v. Shadow keep (changed b (Add-entity bs) v) (changed b′ (Add-entity bs) v)) [
+    | None ↦ record { as-large = s .as-large; entities-too = ap (λ xs. xs ++ bs ∷ []) (s .entities-too); contracts-too = s .contracts-too; files-too = s .files-too; lives-kept = s .lives-kept }
+    | Some r ↦ s
+  ],
+)
 
 go-contract : (bs : Bytes) → Both-go (Add-contract bs)
-go-contract bs keep b b′ s = (rw (s .contracts-too), λ v. elim v as (λ v. Shadow keep (changed b (Add-contract bs) v) (changed b′ (Add-contract bs) v)) [
-    None ↦ record { as-large = s .as-large; entities-too = s .entities-too; contracts-too = ap (λ xs. xs ++ offered bs ∷ []) (s .contracts-too); files-too = s .files-too; lives-kept = s .lives-kept }
-    | Some r ↦ s ])
+go-contract bs keep b b′ s = (
+  rw (s .contracts-too),
+  λ v. elim v as (λ v. Shadow keep (changed b (Add-contract bs) v) (changed b′ (Add-contract bs) v)) [
+    | None ↦ record { as-large = s .as-large; entities-too = s .entities-too; contracts-too = ap (λ xs. xs ++ offered bs ∷ []) (s .contracts-too); files-too = s .files-too; lives-kept = s .lives-kept }
+    | Some r ↦ s
+  ],
+)
 
 go-name : (bs : Bytes) → Both-go (Name-file bs)
-go-name bs keep b b′ s = (refl, λ v. elim v as (λ v. Shadow keep (changed b (Name-file bs) v) (changed b′ (Name-file bs) v)) [
-    None ↦ like-files keep b b′ _ _ s (each-push Fewer-lines (b .files) (b′ .files) _ _ (s .files-too) (same-file _))
-    | Some r ↦ s ])
+go-name bs keep b b′ s = (
+  refl,
+  λ v. elim v as (λ v. Shadow keep (changed b (Name-file bs) v) (changed b′ (Name-file bs) v)) [
+    | None ↦ like-files keep b b′ _ _ s (each-push Fewer-lines (b .files) (b′ .files) _ _ (s .files-too) (same-file _))
+    | Some r ↦ s
+  ],
+)
 
 go-identify : (n : ℕ) (bs : Bytes) → Both-go (Identify n bs)
 go-identify n bs keep b b′ s =
-    let like = like-at (b .files) (b′ .files) n (s .files-too) in
-    (rw (like .same-stage, like .same-entity, s .entities-too), λ v. elim v as (λ v. Shadow keep (changed b (Identify n bs) v) (changed b′ (Identify n bs) v)) [
-        None ↦ like-staged Identified n keep b b′ s
-        | Some r ↦ s ])
+    let like = like-at (b .files) (b′ .files) n (s .files-too) in (
+      rw (like .same-stage, like .same-entity, s .entities-too),
+      λ v. elim v as (λ v. Shadow keep (changed b (Identify n bs) v) (changed b′ (Identify n bs) v)) [
+        | None ↦ like-staged Identified n keep b b′ s
+        | Some r ↦ s
+      ],
+    )
 
 go-withdraw : (n : ℕ) → Both-go (Withdraw n)
-go-withdraw n keep b b′ s = (rw (like-at (b .files) (b′ .files) n (s .files-too) .same-stage), λ v. elim v as (λ v. Shadow keep (changed b (Withdraw n) v) (changed b′ (Withdraw n) v)) [
-    None ↦ like-staged Ended n keep b b′ s
-    | Some r ↦ s ])
+go-withdraw n keep b b′ s = (
+  rw (like-at (b .files) (b′ .files) n (s .files-too) .same-stage),
+  λ v. elim v as (λ v. Shadow keep (changed b (Withdraw n) v) (changed b′ (Withdraw n) v)) [
+    | None ↦ like-staged Ended n keep b b′ s
+    | Some r ↦ s
+  ],
+)
 
 go-close : (n : ℕ) → Both-go (Close n)
-go-close n keep b b′ s = (rw (like-at (b .files) (b′ .files) n (s .files-too) .same-stage), λ v. elim v as (λ v. Shadow keep (changed b (Close n) v) (changed b′ (Close n) v)) [
-    None ↦ like-staged Ended n keep b b′ s
-    | Some r ↦ s ])
+go-close n keep b b′ s = (
+  rw (like-at (b .files) (b′ .files) n (s .files-too) .same-stage),
+  λ v. elim v as (λ v. Shadow keep (changed b (Close n) v) (changed b′ (Close n) v)) [
+    | None ↦ like-staged Ended n keep b b′ s
+    | Some r ↦ s
+  ],
+)
 
 go-look-up : (bs : Bytes) → Both-go (Look-up bs)
 go-look-up bs keep b b′ s = (rw (s .contracts-too), λ v. elim v as (λ v. Shadow keep (changed b (Look-up bs) v) (changed b′ (Look-up bs) v)) [ None ↦ s | Some r ↦ s ])

@@ -37,11 +37,11 @@ module _ {V : Type 0} {nil : V} {joined : V → V → V} {inverse : V → V} (G 
       let Goal : Bool → Type 0 = λ b. total (p ∷ ps) ≡ joined (brought k (cond b (Some (p .1)) (look k ps))) (total (cond b (erase k ps) (p ∷ erase k ps))) in
       ⊎-elim
       (λ e.
-        let here : k ≡ p .0 = key-eq k (p .0) e in
-        let gone : look k ps ≡ None = ap (λ x. look x ps) here ∙ once .0 in
-        subst Goal (sym e)
-        (ap (λ x. joined (share nil weight x (p .1)) (total ps)) (sym here)
-        ∙ ap (joined (share nil weight k (p .1))) (rest ∙ ap (λ o. joined (brought k o) (total (erase k ps))) gone ∙ G .unit _)))
+      let here : k ≡ p .0 = key-eq k (p .0) e in
+      let gone : look k ps ≡ None = ap (λ x. look x ps) here ∙ once .0 in
+      subst Goal (sym e)
+      (ap (λ x. joined (share nil weight x (p .1)) (total ps)) (sym here)
+      ∙ ap (joined (share nil weight k (p .1))) (rest ∙ ap (λ o. joined (brought k o) (total (erase k ps))) gone ∙ G .unit _)))
       (λ e. subst Goal (sym e) (ap (joined (share nil weight (p .0) (p .1))) rest ∙ past _ _ _))
       (cases-bool (same-key k (p .0)))
 

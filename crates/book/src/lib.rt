@@ -20,38 +20,31 @@ use life::State;
 
 fn cases_stand()
     ensures { λ _. ⌜ Cases-stand ⌝ }
-{
-}
+{}
 
 fn edges_stand()
     ensures { λ _. ⌜ Edges-stand ⌝ }
-{
-}
+{}
 
 fn endings_stand()
     ensures { λ _. ⌜ Endings-stand ⌝ }
-{
-}
+{}
 
 fn books_stay_tidy()
     ensures { λ _. ⌜ Tidy-law ⌝ }
-{
-}
+{}
 
 fn lives_stand()
     ensures { λ _. ⌜ Life-law ⌝ }
-{
-}
+{}
 
 fn survivors_stand()
     ensures { λ _. ⌜ Survivors-law ⌝ }
-{
-}
+{}
 
 fn totals_stand<V>()
     ensures { λ _. ⌜ Totals-law V ⌝ }
-{
-}
+{}
 
 // ---- What the book's users call
 
@@ -92,7 +85,11 @@ pub fn state_since(cancel: bool) -> State
     ensures life { λ _. ⌜ Life-law ⌝ }
 {
     lives_stand();
-    if cancel { State::Cancelled } else { State::Open }
+    if cancel {
+        State::Cancelled
+    } else {
+        State::Open
+    }
 }
 
 // Whether a judged line is left out of the survivors: it was refused, or an accepted Error ended its life. The survivors of every run, by
