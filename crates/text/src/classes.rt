@@ -31,7 +31,7 @@ pub impl ByteClass for Capitals as CapitalsClass {
     ghost member = { asciiUpper };
 
     fn has(b: u8) -> bool {
-        b.is_ascii_uppercase()
+        b'A' <= b && b <= b'Z'
     }
 }
 
@@ -42,7 +42,7 @@ pub impl ByteClass for Digits as DigitsClass {
     ghost member = { asciiDigit };
 
     fn has(b: u8) -> bool {
-        b.is_ascii_digit()
+        b'0' <= b && b <= b'9'
     }
 }
 
