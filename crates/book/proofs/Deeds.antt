@@ -16,9 +16,11 @@ use Rattle.line.specs.Lines.{Reported}
 use Rattle.life.specs.declared.life.State.{State}
 use Rattle.life.specs.declared.life.State.the-variants.{Open, Cancelled}
 use Rattle.life.specs.Parts.{Key-parts, Life-parts}
-use Rattle.life.specs.Lives.{Lives, same-key, look, altered, erase}
+use Rattle.life.specs.Keys.{same-key}
+use Rattle.life.specs.Lives.{Lives, look, altered, erase}
 use Rattle.life.specs.Rules.{new-life, modified, cancelled}
-use Rattle.life.proofs.Lives.{key-same, key-eq, same-turned, look-erase, mapped, look-altered, look-apart}
+use Rattle.life.proofs.KeyOrder.{parts-same, parts-eq}
+use Rattle.life.proofs.Lives.{same-turned, look-erase, mapped, look-altered, look-apart}
 use Rattle.book.specs.Book.{Book, empty-book, Call, Add-entity, Add-contract, Name-file, Identify, Withdraw, Close, Judge, Look-up, Total, told-by, key-of, verdict, acted, applied, changed, after, end}
 use Rattle.book.specs.Laws.{Subject, a-line, no-line, subject, log, Deed, Did, deed, deeds, Goes-on, some-cancel, state-since, last-time, last-quantity, last-price, Tells, Life-law}
 
@@ -36,9 +38,9 @@ traced o [] = o
 traced o (Did a t q p ∷ ds) = traced (made a t q p o) ds
 
 acted-here : (a : Action) (k : Key-parts) (t q : ℕ) (p : Option ℤ) (ls : Lives) → look k (acted a k t q p ls) ≡ made a t q p (look k ls)
-acted-here New k t q p ls = rw (key-same k)
+acted-here New k t q p ls = rw (parts-same k)
 acted-here Modify k t q p ls = look-altered k _ ls
-acted-here Error k t q p ls = look-erase k k ls ∙ rw (key-same k)
+acted-here Error k t q p ls = look-erase k k ls ∙ rw (parts-same k)
 acted-here Cancel k t q p ls = look-altered k _ ls
 
 acted-apart : (a : Action) (j k : Key-parts) (t q : ℕ) (p : Option ℤ) (ls : Lives) → same-key j k ≡ false → look k (acted a j t q p ls) ≡ look k ls
@@ -52,7 +54,7 @@ applied-made : (j k : Key-parts) (r : Reported) (ls : Lives) (ds : List Deed) �
 applied-made j k r ls ds = go (same-key j k) refl
   where
     go : (y : Bool) → same-key j k ≡ y → traced (look k (applied j r ls)) ds ≡ traced (look k ls) (cond y (Did (r .action) (r .time) (r .quantity) (r .price) ∷ ds) ds)
-    go true h = ap (λ o. traced o ds) (rw (← key-eq j k h) (acted-here (r .action) j (r .time) (r .quantity) (r .price) ls))
+    go true h = ap (λ o. traced o ds) (rw (← parts-eq j k h) (acted-here (r .action) j (r .time) (r .quantity) (r .price) ls))
     go false h = ap (λ o. traced o ds) (acted-apart (r .action) j k (r .time) (r .quantity) (r .price) ls h)
 
 -- a call leaves of each life what its line makes of it

@@ -25,9 +25,10 @@ use Rattle.line.specs.Lines.{Reported}
 use Rattle.contract.specs.ContractList.{Contract, offered, Told, market-rows}
 use Rattle.filing.specs.Files.{Stage, Identified, Ended, File, named-file, at-stage, identified, judged-limit, taking-rows, one-accepted, one-refused}
 use Rattle.life.specs.Parts.{Key-parts, Life-parts}
-use Rattle.life.specs.Lives.{Lives, same-key, look, altered, erase}
+use Rattle.life.specs.Keys.{same-key}
+use Rattle.life.specs.Lives.{Lives, look, altered, erase}
 use Rattle.life.specs.Rules.{is-new, is-error, life-rows}
-use Rattle.life.proofs.Lives.{key-same, key-eq}
+use Rattle.life.proofs.KeyOrder.{parts-same, parts-eq}
 use Rattle.book.specs.Book.{Book, empty-book, with-files, with-lives, no-file, file-of, put-file, Call, Add-entity, Add-contract, Name-file, Identify, Withdraw, Close, Judge, Look-up, Total, told-by, key-of, claimed, is-full, asked, verdict, acted, applied, refused-in, done, undone, changed, after, end}
 use Rattle.book.specs.Laws.{Subject, a-line, no-line, subject, Entry, entry, log, struck, left-out, survivors, Taken, Every-line-accepted, Fewer-lines, Alike, Survivors-law}
 use Rattle.book.proofs.Tables.{none-fits, Passed, passed, passes, room-rows}
@@ -40,7 +41,7 @@ kept keep = kept-by (λ p. keep (p .0))
 
 look-kept : (keep : Key-parts → Bool) (k : Key-parts) → keep k ≡ true → (ls : Lives) → look k (kept keep ls) ≡ look k ls
 look-kept keep k h [] = refl
-look-kept keep k h (p ∷ ls) = grind (arith, look-kept keep k h ls, key-eq k (p .0))
+look-kept keep k h (p ∷ ls) = grind (arith, look-kept keep k h ls, parts-eq k (p .0))
 
 length-kept : (keep : Key-parts → Bool) (ls : Lives) → length (kept keep ls) ≤ length ls
 length-kept keep ls = omega (arith, length-kept-by-both (λ p. keep (p .0)) (λ p. not (keep (p .0))) (λ _. refl) ls)
@@ -51,7 +52,7 @@ altered-kept keep k f (p ∷ ls) = grind (arith, altered-kept keep k f ls)
 
 altered-dropped : (keep : Key-parts → Bool) (k : Key-parts) (f : Life-parts → Life-parts) → keep k ≡ false → (ls : Lives) → kept keep (altered k f ls) ≡ kept keep ls
 altered-dropped keep k f h [] = refl
-altered-dropped keep k f h (p ∷ ls) = grind (arith, altered-dropped keep k f h ls, key-eq k (p .0))
+altered-dropped keep k f h (p ∷ ls) = grind (arith, altered-dropped keep k f h ls, parts-eq k (p .0))
 
 -- what a filter that leaves a key out keeps, after and before the key is taken out
 erase-kept : (b : Key-parts → Bool) (k : Key-parts) (ls : Lives) → kept-by (λ p. not (b (p .0))) (erase k ls) ≡ kept-by (λ p. not (same-key k (p .0) || b (p .0))) ls
@@ -152,7 +153,7 @@ line-carried : (a : Action) (k : Key-parts) (t q : ℕ) (p : Option ℤ) (rest :
     acted a k t q p (kept (λ j. not (is-error a && same-key k j || struck j rest)) ls) ≡ kept (spared rest) (acted a k t q p ls)
 line-carried New k t q p rest ls h = rw h
 line-carried Modify k t q p rest ls h = altered-kept (spared rest) k _ ls
-line-carried Error k t q p rest ls h = grind (arith, key-same k)
+line-carried Error k t q p rest ls h = grind (arith, parts-same k)
 line-carried Cancel k t q p rest ls h = altered-kept (spared rest) k _ ls
 
 -- a store with no more lives has room where the other has

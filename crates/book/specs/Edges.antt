@@ -584,7 +584,7 @@ endings =
       lives-after = (key 0 (codes "XBIL"), life Open 9 100_000 None) ∷ (key 63 (codes "XEER"), life Open 9 100_000 (Some (negsuc 249_999))) ∷ [];
       files-after = counted 2 2 0 ∷ [];
     }
-    -- a Modify and a Cancel change the life where it stands, an Error takes it out, and a refused line counts and changes nothing else
+    -- a Modify and a Cancel change the life where it stands; a refused line counts in its file, and changes nothing else
     ∷ record {
       from = near [] (listed-as "Y;FW;;" ∷ []);
       asked-for =
@@ -593,6 +593,7 @@ endings =
       lives-after = (key 0 (codes "XBIL"), life Open 9 100_000 (Some (pos 100_000))) ∷ (key 1 (codes "XEER"), life Cancelled 11 200_000 (Some (pos 300_000))) ∷ [];
       files-after = counted 6 4 2 ∷ [];
     }
+    -- an Error takes it out
     ∷ record {
       from = near [] (listed-as "Y;FW;;" ∷ []);
       asked-for = line "TRD;T;Y;XEER;C0643778W.EU;S;N;9;1;1;" ∷ line "TRD;T;Y;XBIL;C0643778W.EU;S;N;9;1;1;" ∷ line "TRD;T;Y;XEER;C0643778W.EU;S;E;9;1;1;" ∷ [];

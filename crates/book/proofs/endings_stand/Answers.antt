@@ -1,6 +1,6 @@
 use mathlib.Core.Path.{refl}
 use Rattle.text.specs.Forms.{code-form, decimal-form}
-use Rattle.life.specs.Lives.{same-key}
+use Rattle.life.specs.Keys.{same-key}
 use Rattle.book.proofs.endings_stand.Needs as need
 
 pub returns : need.returns
