@@ -18,8 +18,11 @@ abbrev pub Lives : Type 0
 Lives = List Pair
 
 -- the pairs that code holds, as plain data
+abbrev pub plain-pair : Key × Life → Pair
+plain-pair p = (key-parts (p .0), life-parts (p .1))
+
 abbrev pub plain : List (Key × Life) → Lives
-plain = map (λ p. (key-parts (p .0), life-parts (p .1)))
+plain = map plain-pair
 
 -- ---- Look-ups
 
