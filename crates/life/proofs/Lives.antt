@@ -155,13 +155,13 @@ length-split k (p ∷ ps) u =
     let rest = length-split k ps (once .1) in
     ⊎-elim
     (λ e.
-        let gone : look k ps ≡ None = ap (λ x. look x ps) (parts-eq k (p .0) e) ∙ once .0 in
-        let less : length ps ≡ 0 + length (erase k ps) = rest ∙ ap (λ o. one-if o + length (erase k ps)) gone in
-        let more : suc (length ps) ≡ 1 + length (erase k ps) = omega (arith, less) in
-        more ∙ sym (ap (λ b. one-if (cond b (Some (p .1)) (look k ps)) + length (cond b (erase k ps) (p ∷ erase k ps))) e))
+    let gone : look k ps ≡ None = ap (λ x. look x ps) (parts-eq k (p .0) e) ∙ once .0 in
+    let less : length ps ≡ 0 + length (erase k ps) = rest ∙ ap (λ o. one-if o + length (erase k ps)) gone in
+    let more : suc (length ps) ≡ 1 + length (erase k ps) = omega (arith, less) in
+    more ∙ sym (ap (λ b. one-if (cond b (Some (p .1)) (look k ps)) + length (cond b (erase k ps) (p ∷ erase k ps))) e))
     (λ e.
-        let more : suc (length ps) ≡ one-if (look k ps) + suc (length (erase k ps)) = omega (arith, rest) in
-        more ∙ sym (ap (λ b. one-if (cond b (Some (p .1)) (look k ps)) + length (cond b (erase k ps) (p ∷ erase k ps))) e))
+    let more : suc (length ps) ≡ one-if (look k ps) + suc (length (erase k ps)) = omega (arith, rest) in
+    more ∙ sym (ap (λ b. one-if (cond b (Some (p .1)) (look k ps)) + length (cond b (erase k ps) (p ∷ erase k ps))) e))
     (cases-bool (same-key k (p .0)))
 
 -- lists with the same look-ups and no key twice are as long as each other
