@@ -124,6 +124,8 @@ of-forms =
     ∷ ("TRD;T;;XBIL;C0643778W-EU;S;N;9;1;1;", Refused 15 5 12)
     ∷ ("TRD;T;;XBIL;C0643778W.E1;S;N;9;1;1;", Refused 15 5 12)
     ∷ ("TRD;T;;XBIL;c0643778W.EU;S;N;9;1;1;", Refused 15 5 12)
+    ∷ ("TRD;T;;XBIL;C0643778W.E;S;N;9;1;1;", Refused 15 5 12)
+    ∷ ("TRD;T;;XBIL;C0643778W.EUX;S;N;9;1;1;", Refused 15 5 12)
     ∷ [])
     -- side and action
     ∷ judging
@@ -166,6 +168,9 @@ of-forms =
     ∷ ("TRD;T;;XBIL;C0643778W.EU;S;N;9;1;+1;", Refused 20 10 33)
     ∷ ("TRD;T;;XBIL;C0643778W.EU;S;N;9;1;1.;", Refused 20 10 33)
     ∷ ("TRD;T;;XBIL;C0643778W.EU;S;N;9;1;00000001;", Refused 20 10 33)
+    ∷ ("TRD;T;;XBIL;C0643778W.EU;S;N;9;1;-00000001;", Refused 20 10 33)
+    ∷ ("TRD;T;;XBIL;C0643778W.EU;S;N;9;1;-1.123456;", Refused 20 10 33)
+    ∷ ("TRD;T;;XBIL;C0643778W.EU;S;N;9;1;-1.;", Refused 20 10 33)
     ∷ ("TRD;T;;XBIL;C0643778W.EU;S;N;9;1;1.123456;", Refused 20 10 33)
     ∷ ("TRD;T;;XBIL;C0643778W.EU;S;N;9;1;1000000.00001;", Refused 20 10 33)
     ∷ ("TRD;T;;XBIL;C0643778W.EU;S;N;9;1;-1000000.00001;", Refused 20 10 33)
@@ -468,6 +473,7 @@ of-files =
     ∷ (Identify 4 (codes "A0000116N.DE"), Refused 65 0 0)
     ∷ (Add-entity (codes "A0000116N.De"), Refused 61 0 0)
     ∷ (Add-entity (codes "A0000116N.DE1"), Refused 61 0 0)
+    ∷ (Add-entity (codes "A0000116N.DEX"), Refused 61 0 0)
     ∷ (Add-entity (codes ""), Refused 61 0 0)
     ∷ (Add-entity (codes "A0000116N.DE"), Refused 62 0 0)
     ∷ (Add-entity (codes "A0000116N.DF"), Accepted)
