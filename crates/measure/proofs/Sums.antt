@@ -124,24 +124,6 @@ module _ {V : Type 0} {nil : V} {joined : V → V → V} {inverse : V → V} (G 
         ∙ ap (λ o. joined (value k o) (total (erase k ps))) (ap Some (sym is) ∙ ap (mapped f) (sym e))
         ∙ sym (total-altered k f ps u)
 
-    -- ---- What a sum becomes, that was a total
-
-    module _ (t t′ : V) (k : Key-parts) where
-      pub came : (l : Life-parts) → t′ ≡ joined t (share nil weight k l) →
-          (ps qs : Lives) → t ≡ total (ps ++ qs) → t′ ≡ total (ps ++ (k, l) ∷ qs)
-      came l is ps qs e = is ∙ ap (λ s. joined s (share nil weight k l)) e ∙ total-come ps k l qs
-
-      pub went : (l : Life-parts) → t′ ≡ joined t (inverse (share nil weight k l)) →
-          (ps : Lives) → Unique ps → look k ps ≡ Some l → t ≡ total ps → t′ ≡ total (erase k ps)
-      went l is ps u found e = is ∙ ap (λ s. joined s (inverse (share nil weight k l))) e ∙ total-go k l ps u found
-
-      pub changed : (old new : Life-parts) → t′ ≡ joined (joined t (inverse (share nil weight k old))) (share nil weight k new) →
-          (ps : Lives) (f : Life-parts → Life-parts) → Unique ps → look k ps ≡ Some old → f old ≡ new → t ≡ total ps → t′ ≡ total (altered k f ps)
-      changed old new is ps f u found so e =
-          is
-          ∙ ap (λ s. joined (joined s (inverse (share nil weight k old))) (share nil weight k new)) e
-          ∙ total-replace k old new f ps u found so
-
     -- the order of the list does not count
     pub total-same : (ps qs : Lives) → Unique ps → Unique qs → Same ps qs → total ps ≡ total qs
     total-same [] [] u w h = refl
