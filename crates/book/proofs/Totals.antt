@@ -9,8 +9,10 @@ use Rattle.std.specs.declared.option.Option.{Option}
 use Rattle.std.specs.declared.option.Option.the-variants.{Some, None}
 use Rattle.std.proofs.shelf.Tests.{cond-true, cases-bool}
 use Rattle.life.specs.Parts.{Key-parts, Life-parts}
-use Rattle.life.specs.Lives.{Lives, same-key, look, erase, Unique, Same}
-use Rattle.life.proofs.Lives.{key-same, key-eq, unique-parts, unique-erase, same-rest}
+use Rattle.life.specs.Keys.{same-key}
+use Rattle.life.specs.Lives.{Lives, look, erase, Unique, Same}
+use Rattle.life.proofs.KeyOrder.{parts-same, parts-eq}
+use Rattle.life.proofs.Lives.{unique-parts, unique-erase, same-rest}
 use Rattle.book.specs.Totals.{Group, share, total-of, Totals-law}
 
 none-some : (l : Life-parts) → None ≡ Some l → ⊥
@@ -37,19 +39,19 @@ module _ {V : Type 0} {nil : V} {joined : V → V → V} {inverse : V → V} (G 
       let Goal : Bool → Type 0 = λ b. total (p ∷ ps) ≡ joined (brought k (cond b (Some (p .1)) (look k ps))) (total (cond b (erase k ps) (p ∷ erase k ps))) in
       ⊎-elim
       (λ e.
-        let here : k ≡ p .0 = key-eq k (p .0) e in
-        let gone : look k ps ≡ None = ap (λ x. look x ps) here ∙ once .0 in
-        subst Goal (sym e)
-        (ap (λ x. joined (share nil weight x (p .1)) (total ps)) (sym here)
-        ∙ ap (joined (share nil weight k (p .1))) (rest ∙ ap (λ o. joined (brought k o) (total (erase k ps))) gone ∙ G .unit _)))
+      let here : k ≡ p .0 = parts-eq k (p .0) e in
+      let gone : look k ps ≡ None = ap (λ x. look x ps) here ∙ once .0 in
+      subst Goal (sym e)
+      (ap (λ x. joined (share nil weight x (p .1)) (total ps)) (sym here)
+      ∙ ap (joined (share nil weight k (p .1))) (rest ∙ ap (λ o. joined (brought k o) (total (erase k ps))) gone ∙ G .unit _)))
       (λ e. subst Goal (sym e) (ap (joined (share nil weight (p .0) (p .1))) rest ∙ past _ _ _))
       (cases-bool (same-key k (p .0)))
 
   pub total-same : (ps qs : Lives) → Unique ps → Unique qs → Same ps qs → total ps ≡ total qs
   total-same [] [] u w h = refl
-  total-same [] (q ∷ qs) u w h = absurd (none-some (q .1) (h (q .0) ∙ cond-true _ _ _ (key-same (q .0))))
+  total-same [] (q ∷ qs) u w h = absurd (none-some (q .1) (h (q .0) ∙ cond-true _ _ _ (parts-same (q .0))))
   total-same (p ∷ ps) qs u w h =
-      let there : look (p .0) qs ≡ Some (p .1) = sym (h (p .0)) ∙ cond-true _ _ _ (key-same (p .0)) in
+      let there : look (p .0) qs ≡ Some (p .1) = sym (h (p .0)) ∙ cond-true _ _ _ (parts-same (p .0)) in
       let rest = total-same ps (erase (p .0) qs) (unique-parts p ps u .1) (unique-erase (p .0) qs w) (same-rest p ps qs u h) in
       ap (joined (share nil weight (p .0) (p .1))) rest
       ∙ sym (total-split (p .0) qs w ∙ ap (λ o. joined (brought (p .0) o) (total (erase (p .0) qs))) there)
