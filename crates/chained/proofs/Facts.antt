@@ -20,7 +20,7 @@ use Rattle.life.specs.Keys.{alike as same}
 use Rattle.life.specs.Pairs.{look as lookup, Unique}
 use Rattle.life.proofs.KeyOrder.{key-eq, key-same}
 use Rattle.life.proofs.Lookups.{unique-from}
-use Rattle.chained.specs.Table.{at, chain-of, chain-at, pairs-of, room-of, Prev, Linked, Sound, Whole, Emptied}
+use Rattle.chained.specs.Table.{at, chain-of, chain-at, pairs-of, room-of, Prev, Linked, Sound, Whole, Held, Emptied}
 
 -- the invariant holds in one way, so it comes out of the ghost field
 prev-prop : {K : ℕ → ℕ} {b top r : ℕ} → IsProp (Prev K b top r)
@@ -129,3 +129,14 @@ emptied-whole s t e = record {
     };
   large = λ l. refl;
 }
+
+pub held : {s : List Slot} {c : ℕ} → Whole s c → Held s c
+held {s} {c} h = record { in-chains = ∣ h ∣₁; apart = whole-unique s c h; within = whole-fits s c h }
+
+-- a table with a slot in use has a length that is allowed
+pub sound-in : (s : List Slot) (c : ℕ) → Whole s c → 0 < c → Sound s c
+sound-in s c h l = ⊎-elim (λ z. absurd (omega (arith, h .large z))) (λ z. h .allowed z) (cases-lt 65536 (length s))
+
+-- and so has one with a slot that is free
+pub sound-with : (s : List Slot) (c : ℕ) → Whole s c → c < room-of s → Sound s c
+sound-with s c h l = ⊎-elim (λ z. absurd (omega (arith, room-large s z))) (λ z. h .allowed z) (cases-lt 65536 (length s))

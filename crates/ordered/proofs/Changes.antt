@@ -19,7 +19,7 @@ use Rattle.life.specs.Pairs.{look, erase, Same}
 use Rattle.life.proofs.Lookups.{same-absent}
 use Rattle.ordered.specs.declared.entry.Entry.{Entry}
 use Rattle.ordered.specs.Table.{at, room-of, pairs-of, Sound, Sought, Inserted, Deleted, Puts, Drops}
-use Rattle.ordered.proofs.Rows.{at-same, at-other, room-within, room-to, fits-to, rise, before-apart, one-place, look-none, look-some, pairs-length, puts-in, takes-out}
+use Rattle.ordered.proofs.Rows.{held, at-same, at-other, room-within, room-to, fits-to, rise, before-apart, one-place, look-none, look-some, pairs-length, puts-in, takes-out}
 
 key-of : (e f : Entry) → e ≡ f → e .key ≡ f .key
 key-of e f p = ap (λ (x : Entry). x .key) p
@@ -49,7 +49,8 @@ module _ (s : List Entry) (c i : ℕ) (k : Key) (l : Life) (old : Sound s c) (lo
       } in
       record {
         size = length-set s i _;
-        sound = new;
+        held = held new;
+        room = room-to s t (length-set s i _);
         fits = sym (or-left _ _ (ap isSome (look-some s k c i old low here)));
         holds = puts-in s c t c k old new
           (λ m x n. (m, x, at-other s i _ m (λ q. n (ap (λ y. at s y .key) q ∙ here))))
@@ -109,7 +110,8 @@ module _ (s t : List Entry) (c i : ℕ) (k : Key) (l : Life) (old : Sound s c) (
   pub inserted : Puts s c t (c + 1) k l (Ok tt)
   inserted = record {
     size = w .size;
-    sound = ins-sound;
+    held = held ins-sound;
+    room = room-to s t (w .size);
     fits = sym (or-right _ _ (lt-ltb (length (pairs-of s c)) (room-of s) (omega (arith, pairs-length s c))));
     holds = puts-in s c t (c + 1) k old ins-sound go back l
       (look-some t k (c + 1) i ins-sound (omega (arith, place .0)) ins-key ∙ ap (λ (y : Entry). Some (y .life)) (w .here));
@@ -120,7 +122,8 @@ module _ (s t : List Entry) (c i : ℕ) (k : Key) (l : Life) (old : Sound s c) (
 pub refused : (s : List Entry) (c i : ℕ) (k : Key) (l : Life) → Sound s c → room-of s ≤ c → Sought s c k (Err i) → Puts s c s c k l (Err (record {}))
 refused s c i k l old full place = record {
   size = refl;
-  sound = old;
+  held = held old;
+  room = refl;
   fits = sym (or-from _ _ (ap isSome (look-none s k c (absent s c k i place))) (le-ltb (length (pairs-of s c)) (room-of s) (omega (arith, pairs-length s c))));
   holds = λ q. refl;
   refused = λ _. (refl, refl);
@@ -169,7 +172,8 @@ module _ (s t : List Entry) (c i : ℕ) (k : Key) (old : Sound s c) (low : i < c
   pub deleted : Drops s c t (c - 1) k
   deleted = record {
     size = w .size;
-    sound = del-sound;
+    held = held del-sound;
+    room = room-to s t (w .size);
     holds = takes-out s c t (c - 1) k old del-sound del-go (λ n x _. let f = del-from n x in (f .0, f .1, f .2))
       (look-none t k (c - 1) (λ n x e. let f = del-from n x in f .3 (one-place s c old (f .0) i (f .1) low (sym (key-of _ _ (f .2)) ∙ e ∙ sym here))));
     idle = λ z. absurd (omega (arith, old .fits));
@@ -179,7 +183,8 @@ module _ (s t : List Entry) (c i : ℕ) (k : Key) (old : Sound s c) (low : i < c
 pub untouched : (s : List Entry) (c i : ℕ) (k : Key) → Sound s c → Sought s c k (Err i) → Drops s c s c k
 untouched s c i k old place = record {
   size = refl;
-  sound = old;
+  held = held old;
+  room = refl;
   holds = same-absent k (pairs-of s c) (look-none s k c (absent s c k i place));
   idle = λ _. (refl, refl);
   rest = λ m _. refl;

@@ -24,7 +24,7 @@ use Rattle.life.specs.Pairs.{look, erase, distinct, Unique, Same}
 use Rattle.life.proofs.KeyOrder.{strict, key-eq, key-same}
 use Rattle.life.proofs.Lookups.{look-erase, look-put, unique-from}
 use Rattle.ordered.specs.declared.entry.Entry.{Entry}
-use Rattle.ordered.specs.Table.{at, room-of, pairs-of, Sound, Inserted, Deleted}
+use Rattle.ordered.specs.Table.{at, room-of, pairs-of, Sound, Held, Inserted, Deleted}
 
 sound-prop : {s : List Entry} {c : ℕ} → IsProp (Sound s c)
 sound-prop p q = λ i. record {
@@ -156,6 +156,9 @@ sound-unique s c h = pairs-unique s c (apart s c h)
 
 pub sound-fits : (s : List Entry) (c : ℕ) → Sound s c → length (pairs-of s c) ≤ room-of s
 sound-fits s c h = subst (λ n. n ≤ room-of s) (sym (pairs-length s c)) (h .fits)
+
+pub held : {s : List Entry} {c : ℕ} → Sound s c → Held s c
+held {s} {c} h = record { in-order = ∣ h ∣₁; apart = sound-unique s c h; within = sound-fits s c h }
 
 pub none-sound : (s : List Entry) → Sound s 0
 none-sound s = record { fits = omega arith; rising = λ i j l h. absurd (omega arith) }
