@@ -1,7 +1,7 @@
 use mathlib.Core.Path.{_≡_, sym, ap, _∙_}
 use lib.Seq.{take-all}
 use Rattle.life.specs.Parts.{key-parts, life-parts}
-use Rattle.measure.specs.Lives.{plain}
+use Rattle.life.specs.Lives.{plain}
 use Rattle.measure.specs.Totals.{share, total-of}
 use Rattle.measure.proofs.Sums.{total-next, total-same}
 use Rattle.measure.proofs.total.total_of.Needs as need
