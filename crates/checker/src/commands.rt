@@ -1,7 +1,5 @@
 // The commands of the program: a line of input, and its answer.
 ghost use mathlib.Core.Path.{_≡_};
-ghost use Prim.Native.Nat.{_+_, _<_};
-ghost use lib.ListN.{length, drop};
 ghost use Rattle.checker.specs.Commands.{answered, refusedIn};
 use line::read_line;
 use text::same_bytes;
@@ -30,12 +28,4 @@ pub fn answer(line: &[u8]) -> Result<(), Refusal>
         Ok(_) => Ok(()),
         Err(fault) => Err(Refusal { number: fault.number(), field: fault.field() }),
     }
-}
-
-// What is left after a line that ends at `end`, and its line feed.
-pub fn after_line(input: &[u8], end: usize) -> &[u8]
-    ensures rest { λ r. ⌜ now r ≡ drop (end + 1) (now (input .entry)) ⌝ }
-    ensures less { λ r. ⌜ (0 < length (now (input .entry)) → length (now r) < length (now (input .entry))) ⌝ }
-{
-    if end < input.len() { &input[end + 1..] } else { &[] }
 }

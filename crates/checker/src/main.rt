@@ -1,11 +1,11 @@
 // Reads lines from standard input and says of each report line whether its form is right.
 mod commands;
 use commands::answer;
-use commands::after_line;
 use commands::Refusal;
 use std::io;
 use std::io::Read;
 use std::io::Write;
+use text::rest_after;
 use text::span_to;
 
 // Answers are written out when this many bytes have come together.
@@ -27,7 +27,7 @@ fn main(rt: LibcRuntime) -> io::Result<()> {
             stdout.write_all(out.as_bytes())?;
             out.clear();
         }
-        rest = after_line(rest, end);
+        rest = rest_after(rest, end);
     }
     stdout.write_all(out.as_bytes())
 }

@@ -23,6 +23,7 @@ pub use classes::LettersOrDigitsClass;
 pub use codes::is_code;
 pub use codes::is_id;
 pub use codes::is_venue;
+pub use cuts::rest_after;
 pub use cuts::span_to;
 pub use names::Names;
 pub use numbers::price_of;
