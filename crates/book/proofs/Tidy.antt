@@ -40,7 +40,7 @@ at-most-within limit (Some n) = go (leb n limit) refl
     go true e = leb-true n limit e
     go false e = omega arith
 
-quantity-within : (t : Bytes) → value 0 (quantity-form t) ≤ 1_000_000_000_000
+pub quantity-within : (t : Bytes) → value 0 (quantity-form t) ≤ 1_000_000_000_000
 unfolding decimal-form
 quantity-within t = at-most-within 1_000_000_000_000 (decimal-of 8 (pieces 46 t))
 
@@ -50,7 +50,7 @@ numbered-within n (c ∷ cs) t =
     let ih = numbered-within (suc n) cs t in
     cond-both _ (Some (suc n, c)) (numbered (suc (suc n)) cs t) (λ o. number-of o ≤ n + suc (length cs)) (λ _. omega arith) (λ _. omega arith)
 
-contract-within : (cs : List Contract) (bs : Bytes) → length cs ≤ contract-limit → contract-number (told-by cs bs) ≤ contract-limit
+pub contract-within : (cs : List Contract) (bs : Bytes) → length cs ≤ contract-limit → contract-number (told-by cs bs) ≤ contract-limit
 contract-within cs bs h =
     let w = numbered-within 0 cs (told-by cs bs .says .contract) in
     cond-both (bilateral (told-by cs bs .says)) 0 (number-of (told-by cs bs .under)) (λ n. n ≤ contract-limit) (λ _. omega arith) (λ _. omega (arith, w, h))

@@ -3,7 +3,7 @@ use mathlib.Core.Path.{_≡_, refl, sym, ap, _∙_, subst}
 use mathlib.Core.Bool.{Bool, true, false, cond, not, true≢false}
 use mathlib.Core.List.{List, [], _∷_, map}
 use mathlib.Core.Logic.{⊎-elim}
-use Prim.Native.Nat.{ℕ, suc, _≤_}
+use Prim.Native.Nat.{ℕ, suc, _+_, _≤_}
 use native.Mathlib.Omega.{arith}
 use lib.ListN.{length}
 use Rattle.std.specs.Options.{isSome}
@@ -130,3 +130,49 @@ length-erase k [] = omega arith
 length-erase k (p ∷ ps) =
     let ih = length-erase k ps in
     cond-both (same-key k (p .0)) (erase k ps) (p ∷ erase k ps) (λ qs. length qs ≤ suc (length ps)) (λ _. omega arith) (λ _. omega arith)
+
+cond-apart : {X : Type 0} (t : Bool) (x y z : X) → (t ≡ true → z ≡ x) → (t ≡ false → z ≡ y) → z ≡ cond t x y
+cond-apart true x y z f g = f refl
+cond-apart false x y z f g = g refl
+
+-- what stands at each key when one life is altered
+pub look-altered-at : (j k : Key-parts) (f : Life-parts → Life-parts) (ps : Lives) → look j (altered k f ps) ≡ cond (same-key j k) (mapped f (look k ps)) (look j ps)
+look-altered-at j k f ps =
+    cond-apart (same-key j k) _ _ _
+    (λ e. ap (λ x. look x (altered k f ps)) (parts-eq j k e) ∙ look-altered k f ps)
+    (λ e. look-apart k j f ps (same-turned j k e))
+
+-- ---- How many lives there are
+
+abbrev one-if : Option Life-parts → ℕ
+one-if None = 0
+one-if (Some l) = 1
+
+length-split : (k : Key-parts) (ps : Lives) → Unique ps → length ps ≡ one-if (look k ps) + length (erase k ps)
+length-split k [] u = omega arith
+length-split k (p ∷ ps) u =
+    let once = unique-parts p ps u in
+    let rest = length-split k ps (once .1) in
+    ⊎-elim
+    (λ e.
+    let gone : look k ps ≡ None = ap (λ x. look x ps) (parts-eq k (p .0) e) ∙ once .0 in
+    let less : length ps ≡ 0 + length (erase k ps) = rest ∙ ap (λ o. one-if o + length (erase k ps)) gone in
+    let more : suc (length ps) ≡ 1 + length (erase k ps) = omega (arith, less) in
+    more ∙ sym (ap (λ b. one-if (cond b (Some (p .1)) (look k ps)) + length (cond b (erase k ps) (p ∷ erase k ps))) e))
+    (λ e.
+    let more : suc (length ps) ≡ one-if (look k ps) + suc (length (erase k ps)) = omega (arith, rest) in
+    more ∙ sym (ap (λ b. one-if (cond b (Some (p .1)) (look k ps)) + length (cond b (erase k ps) (p ∷ erase k ps))) e))
+    (cases-bool (same-key k (p .0)))
+
+-- lists with the same look-ups and no key twice are as long as each other
+pub length-same : (ps qs : Lives) → Unique ps → Unique qs → Same ps qs → length ps ≡ length qs
+length-same [] [] u w h = refl
+length-same [] (q ∷ qs) u w h =
+    let e : None ≡ Some (q .1) = h (q .0) ∙ cond-true _ _ _ (parts-same (q .0)) in
+    let z : _≡_ {A = ℕ} 0 1 = cc in
+    absurd (omega arith)
+length-same (p ∷ ps) qs u w h =
+    let there : look (p .0) qs ≡ Some (p .1) = sym (h (p .0)) ∙ cond-true _ _ _ (parts-same (p .0)) in
+    let rest = length-same ps (erase (p .0) qs) (unique-parts p ps u .1) (unique-erase (p .0) qs w) (same-rest p ps qs u h) in
+    let split : length qs ≡ 1 + length (erase (p .0) qs) = length-split (p .0) qs w ∙ ap (λ o. one-if o + length (erase (p .0) qs)) there in
+    omega (arith, rest, split)
