@@ -44,7 +44,9 @@ pub fn queries(heap: Global, finds: usize, held: u32, among: u32) -> Result<Vec<
     let mut keys = Vec::new(heap);
     let mut state: u64 = 1;
     for _ in 0..finds {
-        state = state.wrapping_mul(6364136223846793005).wrapping_add(1442695040888963407);
+        state = state
+            .wrapping_mul(6364136223846793005)
+            .wrapping_add(1442695040888963407);
         if let Some(key) = key_of(spread((state >> 33) as u32, held, among)) {
             keys.push(key)?;
         }

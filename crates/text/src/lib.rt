@@ -2,6 +2,7 @@
 mod bounded;
 mod texts;
 mod words;
+
 pub use bounded::Text;
 pub use texts::compare_bytes;
 pub use texts::same_bytes;
