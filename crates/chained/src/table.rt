@@ -8,7 +8,7 @@ ghost use Rattle.life.specs.Keys.{alike};
 ghost use Rattle.life.specs.Pairs.{look};
 ghost use mathlib.Core.List.{_∷_};
 ghost use Rattle.chained.specs.Table.{«room-of» as room-in, Becomes, at, chain-of, pairs-of, re, Linked, Chains, Sound, Sought, Place, Rewired, Paired, Kept, Whole, Held, Spare, Wiped, Emptied, Puts, Drops};
-ghost use mathlib.Core.Bool.{true, false};
+ghost use mathlib.Core.Bool.{true, false, not, _&&_};
 use crate::slot::Slot;
 use life::Key;
 use life::Life;
@@ -63,7 +63,15 @@ fn has_key(slots: &[Slot], i: usize, key: &Key) -> bool
     slots[i].key.same(key)
 }
 
-// The place of a key, or 0.
+// Whether the search for a key goes on past the slot `j`: there is one, and it has another key.
+fn goes_on(slots: &[Slot], j: usize, key: &Key) -> bool
+    requires { ⌜ j < length (now slots) ⌝ }
+    ensures { λ r. ⌜ r ≡ (ltb 0 j && not (alike (at (now (slots .entry)) j .key) (now (key .entry)))) ⌝ }
+{
+    j > 0 && !has_key(slots, j, key)
+}
+
+// The place of a key, or 0. Zero ends a chain.
 fn seek(slots: &[Slot], count: usize, key: &Key) -> usize
     requires { ⌜ Sound (now slots) count ⌝ }
     ensures { λ r. ⌜ Sought (now (slots .entry)) count (now (key .entry)) r ⌝ }
@@ -74,13 +82,10 @@ fn seek(slots: &[Slot], count: usize, key: &Key) -> usize
     }
     let b = chain(key, n);
     let mut j = head_of(slots, b);
-    while j > 0 {
-        if has_key(slots, j, key) {
-            return j;
-        }
+    while goes_on(slots, j, key) {
         j = next_of(slots, j);
     }
-    0
+    j
 }
 
 // Sets the link at `p`, or the head of the chain `b` where `p` is 0.
@@ -102,7 +107,12 @@ fn set_pair(slots: &mut [Slot], i: usize, key: Key, life: Life)
 {
     let head = slots[i].head;
     let next = slots[i].next;
-    slots[i] = Slot { head, next, key, life };
+    slots[i] = Slot {
+        head,
+        next,
+        key,
+        life,
+    };
 }
 
 // Takes the slot after the last one in use for a new key.

@@ -10,7 +10,7 @@ use text::Side;
 const PLACES: usize = 8;
 
 // The trade of a number: its id has eight digits, so that the order of keys is that of numbers.
-pub fn key_of(number: u32) -> Option<Key> {
+pub(crate) fn key_of(number: u32) -> Option<Key> {
     let mut id = [b'0'; 8];
     let mut rest = number;
     for i in 0..PLACES {
@@ -21,7 +21,7 @@ pub fn key_of(number: u32) -> Option<Key> {
 }
 
 // Puts a life at each number below `held`, with that number as its time.
-pub fn fill<S: Store>(store: &mut S, held: u32) {
+pub(crate) fn fill<S: Store>(store: &mut S, held: u32) {
     for i in 0..held {
         if let Some(key) = key_of(i) {
             if let Some(life) = Life::new(i, 100, None) {
@@ -40,11 +40,13 @@ fn spread(number: u32, held: u32, among: u32) -> u32 {
 }
 
 // Keys of `among` of the numbers below `held`, evenly spread, in an order without a pattern.
-pub fn queries(heap: Global, finds: usize, held: u32, among: u32) -> Result<Vec<Key>, AllocError> {
+pub(crate) fn queries(heap: Global, finds: usize, held: u32, among: u32) -> Result<Vec<Key>, AllocError> {
     let mut keys = Vec::new(heap);
     let mut state: u64 = 1;
     for _ in 0..finds {
-        state = state.wrapping_mul(6364136223846793005).wrapping_add(1442695040888963407);
+        state = state
+            .wrapping_mul(6364136223846793005)
+            .wrapping_add(1442695040888963407);
         if let Some(key) = key_of(spread((state >> 33) as u32, held, among)) {
             keys.push(key)?;
         }
@@ -53,7 +55,7 @@ pub fn queries(heap: Global, finds: usize, held: u32, among: u32) -> Result<Vec<
 }
 
 // The sum of the times of the lives found.
-pub fn find_all<S: Store>(store: &S, keys: &[Key]) -> u64 {
+pub(crate) fn find_all<S: Store>(store: &S, keys: &[Key]) -> u64 {
     let mut sum: u64 = 0;
     for key in keys {
         if let Some(life) = store.find(key) {

@@ -1,6 +1,7 @@
 // Times finds in both stores: `finds_stores HELD AMONG` holds that many keys and prints the time of one find among so many of
 // them, or among all. Without an argument it makes a short run and prints only what was found.
 mod keys;
+
 use chained::Chained;
 use chained::ChainedStore;
 use chained::Slot;
@@ -19,6 +20,7 @@ use std::io;
 use std::time::Instant;
 
 const FINDS: usize = 100_000;
+
 const ROUNDS: usize = 20;
 
 // The shortest of some rounds, as nanoseconds for each find.
@@ -44,7 +46,12 @@ fn run(rt: LibcRuntime, held: u32, among: u32, finds: usize, time: bool) -> io::
         return Ok(());
     };
     let wanted = queries(heap, finds, held, among)?;
-    let mut slots = vec![in heap; Slot { head: 0, next: 0, key, life }; held as usize + 1]?;
+    let mut slots = vec![in heap; Slot {
+        head: 0,
+        next: 0,
+        key,
+        life
+    }; held as usize + 1]?;
     let mut chained = Chained::new(&mut slots);
     fill(&mut chained, held);
     let mut entries = vec![in heap; Entry { key, life }; held as usize]?;
@@ -52,7 +59,10 @@ fn run(rt: LibcRuntime, held: u32, among: u32, finds: usize, time: bool) -> io::
     fill(&mut ordered, held);
     let one = find_all(&chained, &wanted);
     let other = find_all(&ordered, &wanted);
-    println!(rt, "{held} held, {finds} finds among {among}: {one}, {other}")?;
+    println!(
+        rt,
+        "{held} held, {finds} finds among {among}: {one}, {other}"
+    )?;
     if time {
         let c = timed(rt, &chained, &wanted)?;
         let o = timed(rt, &ordered, &wanted)?;

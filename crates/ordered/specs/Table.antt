@@ -14,7 +14,7 @@ use Rattle.life.specs.declared.life.Life.{Life}
 use Rattle.life.specs.declared.store.NoRoom.{NoRoom}
 use Rattle.life.specs.Keys.{Before}
 use Rattle.life.specs.Blank.{no-key, no-life}
-use Rattle.life.specs.Pairs.{look, erase, added, admits, distinct, Same}
+use Rattle.life.specs.Pairs.{erase, added, admits, distinct, Same}
 use Rattle.ordered.specs.declared.entry.Entry.{Entry}
 
 -- the entry at a place

@@ -7,6 +7,7 @@ mod names;
 mod numbers;
 mod texts;
 mod words;
+
 pub use bounded::Text;
 pub use classes::all_of;
 pub use classes::ByteClass;

@@ -1,4 +1,4 @@
-use mathlib.Core.Path.{_≡_, refl, sym, ap, subst, _∙_}
+use mathlib.Core.Path.{refl, sym, subst, _∙_}
 use Prim.Native.Nat.{_-_}
 use native.Mathlib.Omega.{arith}
 use Rattle.std.specs.declared.option.Option.the-variants.{None}
@@ -16,7 +16,7 @@ take-out-requires c κs =
 pub returns-then-i-gt0 : need.returns-then-i-gt0
 returns-then-i-gt0 c =
     let gone = subst (λ k. Becomes (pairs-of (c .args .self .now .slots .now) (c .args .self .now .count)) (pairs-of (c .take-out .last .slots) (c .args .self .now .count - 1)) k None)
-        (c .place-of-i .ensures .held (c .if-i-gt0 .taken)) (c .take-out .ensures .gone) in
+    (c .place-of-i .ensures .held (c .if-i-gt0 .taken)) (c .take-out .ensures .gone) in
     record {
       held = held (whole _ _ (c .take-out .ensures .sound));
       room = room-to _ _ (c .take-out .kept .slots);
