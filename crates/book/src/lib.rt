@@ -13,7 +13,8 @@ ghost use Rattle.life.specs.Parts.{Key-parts};
 ghost use Rattle.book.specs.Cases.{cases, Cases-stand};
 ghost use Rattle.book.specs.Edges.{edges, Edges-stand, Endings-stand};
 ghost use Rattle.book.specs.Laws.{a-line, Entry, struck, left-out, Survivors-law, Deed, some-cancel, state-since, Life-law, Tidy-law};
-ghost use Rattle.book.specs.Totals.{while-open, Totals-law};
+ghost use Rattle.measure.specs.Totals.{while-open};
+ghost use Rattle.book.specs.Totals.{Totals-law};
 use life::State;
 
 // ---- The laws, each proved on a function of its own

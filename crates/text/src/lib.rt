@@ -7,6 +7,7 @@ mod names;
 mod numbers;
 mod texts;
 mod words;
+
 pub use bounded::Text;
 pub use classes::all_of;
 pub use classes::ByteClass;
@@ -23,6 +24,7 @@ pub use classes::LettersOrDigitsClass;
 pub use codes::is_code;
 pub use codes::is_id;
 pub use codes::is_venue;
+pub use cuts::rest_after;
 pub use cuts::span_to;
 pub use names::Names;
 pub use numbers::price_of;

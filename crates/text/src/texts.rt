@@ -25,7 +25,10 @@ impl<const N: usize> Text<N> {
         for i in 0..s.len() {
             bytes[i] = s[i];
         }
-        Some(Text { bytes, len: s.len() as u8 })
+        Some(Text {
+            bytes,
+            len: s.len() as u8,
+        })
     }
 
     // Its bytes.
