@@ -3,7 +3,9 @@ ghost use mathlib.Core.Path.{_≡_};
 ghost use mathlib.Core.List.{[]};
 ghost use Rattle.std.specs.Vec.{made};
 ghost use Rattle.text.specs.Bytes.{among};
+ghost use Rattle.text.specs.Forms.{«code-form»};
 ghost use Rattle.text.specs.Rows.{«first-fit»};
+ghost use Rattle.text.specs.Texts.{textIn};
 ghost use Rattle.filing.specs.Entities.{«entity-rows», added};
 ghost use Rattle.filing.specs.Faults.{«entity-number» as number-of, refusedBy};
 ghost use Rattle.filing.specs.Known.{known};
@@ -41,6 +43,13 @@ impl EntityFault {
 // The most entities.
 const MOST_ENTITIES: usize = 32;
 
+// A text that has the form of an ACER code.
+fn code_of(text: &[u8]) -> Option<Text<12>>
+    ensures { λ r. ⌜ textIn r ≡ code-form (now (text .entry)) ⌝ }
+{
+    if is_code(text) { Text::new(text) } else { None }
+}
+
 impl EntityList {
     // A list with no entity, and with room for all that it may have.
     pub fn new(heap: Global) -> Result<EntityList, AllocError>
@@ -55,19 +64,16 @@ impl EntityList {
         ensures told { λ r. ⌜ refusedBy r ≡ first-fit entity-rows (known (now (self .entry)), now (code .entry)) ⌝ }
         ensures list { λ _. ⌜ known (now (self .exit)) ≡ added (known (now (self .entry))) (now (code .entry)) ⌝ }
     {
-        if !is_code(code) {
+        let Some(text) = code_of(code) else {
             return Err(EntityFault::Form);
-        }
+        };
         if self.knows(code) {
             return Err(EntityFault::Known);
         }
         if self.codes.len() >= MOST_ENTITIES {
             return Err(EntityFault::Full);
         }
-        match Text::new(code) {
-            Some(text) => self.codes.push_reserved(text),
-            None => return Err(EntityFault::Form),
-        }
+        self.codes.push_reserved(text);
         Ok(())
     }
 

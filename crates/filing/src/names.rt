@@ -4,7 +4,7 @@ ghost use mathlib.Core.Bool.{_&&_};
 ghost use Prim.Native.Nat.{_+_};
 ghost use lib.ListN.{length, take, drop};
 ghost use Rattle.std.specs.Vec.{made};
-ghost use Rattle.filing.specs.Codes.{codeIn};
+ghost use Rattle.filing.specs.Codes.{codeIn, namingIn, «code-there»};
 ghost use Rattle.filing.specs.Cut.{«in-two», cutIn};
 ghost use Rattle.filing.specs.Faults.{«name-number» as number-of};
 ghost use Rattle.filing.specs.Names.{«a-date», «a-schema», «a-version», «a-last», naming};
@@ -43,13 +43,14 @@ pub struct EntityCode<'a> {
 }
 
 // A text cut in two at a separator.
+#[derive(Clone, Copy)]
 struct Cut<'a> {
     front: &'a [u8],
     rest: &'a [u8],
 }
 
 // The text before the first `_`, and what follows it.
-fn cut<'a>(text: &'a [u8]) -> Option<Cut<'a>>
+fn first_cut<'a>(text: &'a [u8]) -> Option<Cut<'a>>
     ensures { λ r. ⌜ cutIn r ≡ in-two 95 (now (text .entry)) ⌝ }
 {
     let n = span_to(text, b'_');
@@ -96,11 +97,12 @@ fn is_last(text: &[u8]) -> bool
 
 // The code in a name of five parts joined by `_`: date, schema, version, code and number.
 fn code_in<'a>(name: &'a [u8]) -> Option<EntityCode<'a>>
+    ensures { λ r. ⌜ codeIn r ≡ code-there (now (name .entry)) ⌝ }
 {
-    let date = cut(name)?;
-    let schema = cut(date.rest)?;
-    let version = cut(schema.rest)?;
-    let code = cut(version.rest)?;
+    let date = first_cut(name)?;
+    let schema = first_cut(date.rest)?;
+    let version = first_cut(schema.rest)?;
+    let code = first_cut(version.rest)?;
     if !is_date(date.front) || !is_schema(schema.front) || !is_version(version.front) || !is_last(code.rest) {
         return None;
     }
@@ -112,7 +114,7 @@ fn code_in<'a>(name: &'a [u8]) -> Option<EntityCode<'a>>
 
 // The entity code of a file's name.
 pub fn read_name<'a>(name: &'a [u8]) -> Result<EntityCode<'a>, NameFault>
-    ensures told { λ r. ⌜ codeIn r ≡ naming (now (name .entry)) ⌝ }
+    ensures told { λ r. ⌜ namingIn r ≡ naming (now (name .entry)) ⌝ }
     ensures part { λ r. ⌜ made r (λ code. now (code .text) ≡ take (length (now (code .text))) (drop (code .at) (now (name .entry)))) ⌝ }
 {
     match code_in(name) {
