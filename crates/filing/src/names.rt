@@ -95,6 +95,13 @@ fn is_last(text: &[u8]) -> bool
     all_of::<Digits>(&text[0..n]) && same_bytes(&text[n..], b".xml")
 }
 
+// Whether the parts around the code have their forms.
+fn surround_code(date: &[u8], schema: &[u8], version: &[u8], last: &[u8]) -> bool
+    ensures { λ r. ⌜ r ≡ (a-date (now (date .entry)) && (a-schema (now (schema .entry)) && (a-version (now (version .entry)) && a-last (now (last .entry))))) ⌝ }
+{
+    is_date(date) && is_schema(schema) && is_version(version) && is_last(last)
+}
+
 // The code in a name of five parts joined by `_`: date, schema, version, code and number.
 fn code_in<'a>(name: &'a [u8]) -> Option<EntityCode<'a>>
     ensures { λ r. ⌜ codeIn r ≡ code-there (now (name .entry)) ⌝ }
@@ -103,7 +110,7 @@ fn code_in<'a>(name: &'a [u8]) -> Option<EntityCode<'a>>
     let schema = first_cut(date.rest)?;
     let version = first_cut(schema.rest)?;
     let code = first_cut(version.rest)?;
-    if !is_date(date.front) || !is_schema(schema.front) || !is_version(version.front) || !is_last(code.rest) {
+    if !surround_code(date.front, schema.front, version.front, code.rest) {
         return None;
     }
     if !is_code(code.front) {
