@@ -1,6 +1,7 @@
 // What a bounded text can do.
 ghost use mathlib.Core.Path.{_≡_};
 ghost use mathlib.Core.Bool.{_&&_};
+ghost use mathlib.Core.List.{[]};
 ghost use Prim.Native.Nat.{ℕ, _+_, _<_, _≤_};
 ghost use lib.Dec.{leb};
 ghost use lib.ListN.{length, getD, take, drop};
@@ -14,6 +15,13 @@ use std::cmp::Ordering;
 const LONGEST: usize = 255;
 
 impl<const N: usize> Text<N> {
+    // The text of no bytes.
+    pub fn empty() -> Text<N>
+        ensures { λ r. ⌜ textOf r ≡ [] ⌝ }
+    {
+        Text { bytes: [0; N], len: 0 }
+    }
+
     // The bytes as a text, if they are few enough.
     pub fn new(s: &[u8]) -> Option<Text<N>>
         ensures { λ r. ⌜ textIn r ≡ provided (leb (length (now (s .entry))) N && leb (length (now (s .entry))) 255) (now (s .entry)) ⌝ }

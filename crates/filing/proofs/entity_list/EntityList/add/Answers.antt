@@ -1,12 +1,12 @@
-use mathlib.Core.Path.{_≡_, sym, ap, _∙_}
+use mathlib.Core.Path.{_≡_, _∙_}
 use mathlib.Core.Bool.{true, false}
-use mathlib.Core.List.{[], _∷_, _++_}
 use native.Mathlib.Omega.{arith}
 use lib.Dec.{leb}
 use lib.ListN.{length}
-use Rattle.std.proofs.shelf.Lists.{map-append, length-map}
+use Rattle.std.proofs.shelf.Lists.{length-map}
 use Rattle.std.proofs.shelf.Ways.{tells}
-use Rattle.text.specs.Texts.{textOf, textsOf}
+use Rattle.text.specs.Texts.{textOf}
+use Rattle.text.proofs.Amongs.{texts-push}
 use Rattle.filing.specs.Known.{known}
 use Rattle.filing.proofs.Adding.{says-itself, fitting, leaves}
 use Rattle.filing.proofs.entity_list.EntityList.add.Needs as need
@@ -29,8 +29,6 @@ returns c =
     record {
       told = fitting es (c .args .code .now) _ _ _ (c .in-Some .ensures tt) (c .if-knows .ensures tt) room;
       list =
-        ap textsOf (c .push-reserved .ensures .items)
-        ∙ map-append textOf (c .args .self .now .codes .items) (c .in-Some .text ∷ [])
-        ∙ ap (λ t. es ++ t ∷ []) (says-itself (c .args .code .now) _ (c .in-Some .ensures tt))
+        texts-push (c .args .self .now .codes .items) _ (c .in-Some .text) (c .args .code .now) (c .push-reserved .ensures .items) (says-itself (c .args .code .now) _ (c .in-Some .ensures tt))
         ∙ leaves es (c .args .code .now) _ _ _ (c .in-Some .ensures tt) (c .if-knows .ensures tt) room;
     }
