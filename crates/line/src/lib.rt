@@ -6,6 +6,8 @@ mod place;
 mod reader;
 mod report;
 pub use faults::ReadFault;
+pub use faults::ReadFaultDebug;
+pub use faults::ReadFaultPartialEq;
 pub use offsets::field_count;
 pub use offsets::field_offset;
 pub use parts::Part;
