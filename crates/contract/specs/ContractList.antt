@@ -14,6 +14,7 @@ use Rattle.std.specs.shelf.Text.{sameBytes}
 use Rattle.text.specs.Bytes.{Bytes, every, among, piece, provided, has-form, value, word-of}
 use Rattle.text.specs.Forms.{id-form, names-form}
 use Rattle.std.specs.declared.result.Result.{Result}
+use Rattle.std.specs.declared.result.Result.the-variants.{Ok, Err}
 use Rattle.text.specs.Rows.{Row, row, first-fit, looking-at, fields, form-rows, Refusal, settled-by}
 use Rattle.line.specs.Lines.{Reported}
 use Rattle.contract.specs.declared.types.ContractType.{ContractType}
@@ -165,3 +166,11 @@ contract-number x = cond (bilateral (x .says)) 0 (number-of (x .under))
 -- what a read line gets from the list: its contract number, or why it is refused; `bs` is its text
 abbrev pub owing : List Contract → Bytes → Reported → Result ℕ Refusal
 owing cs bs r = settled-by bs (contract-number (told cs r)) (first-fit market-rows (told cs r))
+
+-- the same by number and field, for a caller that has the line's text
+abbrev pub settled-plainly : {V : Type 0} → V → Option (ℕ × ℕ) → Result V (ℕ × ℕ)
+settled-plainly v None = Ok v
+settled-plainly v (Some r) = Err r
+
+abbrev pub due : List Contract → Reported → Result ℕ (ℕ × ℕ)
+due cs r = settled-plainly (contract-number (told cs r)) (first-fit market-rows (told cs r))

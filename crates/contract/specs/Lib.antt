@@ -1,1 +1,4 @@
 pub mod ContractList
+pub mod Faults
+pub mod Held
+pub mod Styles

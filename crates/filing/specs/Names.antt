@@ -8,10 +8,11 @@ use lib.ListN.{length, take, drop}
 use Rattle.std.specs.Text.{asciiDigit, asciiAlnum}
 use Rattle.std.specs.declared.option.Option.{Option}
 use Rattle.std.specs.declared.option.Option.the-variants.{Some, None}
+use Rattle.std.specs.declared.result.Result.{Result}
 use Rattle.std.specs.shelf.Text.{sameBytes}
-use Rattle.text.specs.Bytes.{Bytes, between, every, pieces, has-form}
+use Rattle.text.specs.Bytes.{Bytes, between, every, pieces, start, value, has-form}
 use Rattle.text.specs.Forms.{code-form}
-use Rattle.text.specs.Rows.{Row, row}
+use Rattle.text.specs.Rows.{Row, row, Refusal, settled}
 
 -- 8 digits
 abbrev pub a-date : Bytes → Bool
@@ -52,3 +53,11 @@ name-form t = code-in (pieces 95 t)
 -- the table of refusals in naming a file
 abbrev pub naming-rows : List (Row Bytes)
 naming-rows = row 64 0 (λ t. not (has-form (name-form t))) ∷ []
+
+-- where the code stands in a name
+unfoldable pub code-offset : Bytes → ℕ
+code-offset t = start 4 (pieces 95 t)
+
+-- what a name says: the code and its offset, or why it is refused
+abbrev pub naming : Bytes → Result (Bytes × ℕ) Refusal
+naming t = settled naming-rows t (value [] (name-form t), code-offset t)

@@ -1,11 +1,17 @@
 // Reads report lines.
 mod faults;
+mod offsets;
 mod parts;
 mod place;
 mod reader;
 mod report;
 pub use faults::ReadFault;
+pub use faults::ReadFaultDebug;
+pub use faults::ReadFaultPartialEq;
+pub use offsets::field_count;
+pub use offsets::field_offset;
 pub use parts::Part;
+pub use reader::Form;
 pub use reader::Reader;
 pub use report::read_line;
 pub use report::Report;

@@ -1,8 +1,10 @@
 // Hands out the fields of a line in order, and copies nothing.
 // A reading that fails leaves the reader at the field's first byte.
 ghost use mathlib.Core.Path.{_≡_};
-ghost use Prim.Native.Nat.{_+_};
+ghost use mathlib.Core.List.{List};
+ghost use Prim.Native.Nat.{ℕ, _+_};
 ghost use lib.ListN.{drop};
+ghost use Rattle.std.specs.declared.option.Option.{Option};
 ghost use Rattle.text.specs.Forms.{«kind-form», «id-form», «venue-form», «code-form», «side-form», «action-form», «time-form», «quantity-form», «price-form», «names-form»};
 ghost use Rattle.line.specs.Reads.{front, pace, «next-field», read, past, seen, seenIn, «as-read», «as-word», «as-number», «as-price», «as-names»};
 use crate::faults::ReadFault;
@@ -54,6 +56,14 @@ fn signed<'a>(price: Option<i64>, text: &'a [u8], at: usize) -> Part<'a>
     }
 }
 
+// What a field of one form says.
+pub trait Form {
+    ghost form: { List ℕ → Option Self };
+
+    fn said_by(text: &[u8]) -> Option<Self>
+        ensures { λ r. ⌜ r ≡ form (now (text .entry)) ⌝ };
+}
+
 #[derive(Drop)]
 pub struct Reader<'a> {
     line: &'a [u8],
@@ -67,6 +77,22 @@ impl<'a> Reader<'a> {
         ensures place { λ r. ⌜ r .place ≡ record { at = 0; field = 0 } ⌝ }
     {
         Reader { line, place: Place { at: 0, field: 0 } }
+    }
+
+    // A field of any form.
+    pub fn value<F: Form>(&mut self) -> Result<F, ReadFault>
+        ensures told { λ r. ⌜ r ≡ read as-read (F·Form .form) (now (self .entry) .place) (now (now (self .entry) .line)) ⌝ }
+        ensures place { λ r. ⌜ now (self .exit) .place ≡ past (now (self .entry) .place) (now (now (self .entry) .line)) r ⌝ }
+        ensures line { λ _. ⌜ now (now (self .exit) .line) ≡ now (now (self .entry) .line) ⌝ }
+    {
+        let start = self.place;
+        let mut guard = Rewind { place: &mut self.place, start, kept: false };
+        let text = take_field(self.line, guard.place);
+        let Some(value) = F::said_by(text) else {
+            return Err(ReadFault::Form { field: start.field.saturating_add(1), at: start.at });
+        };
+        guard.kept = true;
+        Ok(value)
     }
 
     // ORD or TRD.

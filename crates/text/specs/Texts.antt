@@ -1,6 +1,6 @@
 -- What a bounded text stands for, and the order of texts.
 use mathlib.Core.Bool.{cond}
-use mathlib.Core.List.{List, [], _∷_}
+use mathlib.Core.List.{List, [], _∷_, map}
 use Prim.Native.Nat.{ℕ}
 use lib.Dec.{eqb, ltb}
 use lib.ListN.{take}
@@ -17,6 +17,9 @@ textOf t = take (t .len) (t .bytes)
 abbrev pub textIn : {n : ℕ} → Option (Text n) → Option (List ℕ)
 textIn None = None
 textIn (Some t) = Some (textOf t)
+
+abbrev pub textsOf : {n : ℕ} → List (Text n) → List (List ℕ)
+textsOf ts = map textOf ts
 
 -- by what stands first where the lists differ, and a list before what it begins
 abbrev pub lexical : {X : Type 0} → (X → X → Ordering) → List X → List X → Ordering

@@ -31,6 +31,7 @@ pub use numbers::price_of;
 pub use numbers::quantity_of;
 pub use numbers::time_of;
 pub use texts::compare_bytes;
+pub use texts::is_among;
 pub use texts::same_bytes;
 pub use words::Action;
 pub use words::Kind;

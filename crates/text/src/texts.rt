@@ -1,12 +1,13 @@
 // What a bounded text can do.
 ghost use mathlib.Core.Path.{_≡_};
 ghost use mathlib.Core.Bool.{_&&_};
+ghost use mathlib.Core.List.{[]};
 ghost use Prim.Native.Nat.{ℕ, _+_, _<_, _≤_};
 ghost use lib.Dec.{leb};
 ghost use lib.ListN.{length, getD, take, drop};
 ghost use Rattle.std.specs.shelf.Text.{sameBytes};
-ghost use Rattle.text.specs.Bytes.{provided};
-ghost use Rattle.text.specs.Texts.{textOf, textIn, order};
+ghost use Rattle.text.specs.Bytes.{provided, among};
+ghost use Rattle.text.specs.Texts.{textOf, textIn, textsOf, order};
 use crate::bounded::Text;
 use std::cmp::Ordering;
 
@@ -14,6 +15,13 @@ use std::cmp::Ordering;
 const LONGEST: usize = 255;
 
 impl<const N: usize> Text<N> {
+    // The text of no bytes.
+    pub fn empty() -> Text<N>
+        ensures { λ r. ⌜ textOf r ≡ [] ⌝ }
+    {
+        Text { bytes: [0; N], len: 0 }
+    }
+
     // The bytes as a text, if they are few enough.
     pub fn new(s: &[u8]) -> Option<Text<N>>
         ensures { λ r. ⌜ textIn r ≡ provided (leb (length (now (s .entry))) N && leb (length (now (s .entry))) 255) (now (s .entry)) ⌝ }
@@ -66,6 +74,18 @@ pub fn same_bytes(a: &[u8], b: &[u8]) -> bool
         good = good & (a[i] == b[i]);
     }
     good
+}
+
+// Whether a text stands in a list.
+pub fn is_among<const N: usize>(texts: &[Text<N>], text: &[u8]) -> bool
+    ensures { λ r. ⌜ r ≡ among (textsOf (now (texts .entry))) (now (text .entry)) ⌝ }
+{
+    for t in texts {
+        if same_bytes(text, t.as_slice()) {
+            return true;
+        }
+    }
+    false
 }
 
 // Which of two texts comes first: by the first byte from the left that differs, and a text before what it begins.

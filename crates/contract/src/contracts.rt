@@ -1,0 +1,119 @@
+// Adding contracts, and what a read line owes to the list.
+ghost use mathlib.Core.Path.{_≡_};
+ghost use mathlib.Core.List.{[]};
+ghost use Prim.Native.Nat.{_<_};
+ghost use Rattle.std.specs.Vec.{made};
+ghost use Rattle.text.specs.Rows.{«first-fit», «settled-by»};
+ghost use Rattle.line.specs.Reports.{said};
+ghost use Rattle.contract.specs.ContractList.{listed, «names-in», «listing-rows», adding, added, due};
+ghost use Rattle.contract.specs.Held.{contractOf, contractsOf, addedIn, foundIn, numberIn};
+use crate::faults::ContractFault;
+use crate::faults::ContractFaultFromRead;
+use crate::faults::ListFault;
+use crate::held::HeldContract;
+use crate::list::ContractList;
+use crate::names::has_all;
+use crate::names::has_twice;
+use crate::offers::read_contract;
+use line::field_offset;
+use line::Report;
+use std::alloc::AllocError;
+use std::alloc::Global;
+use text::same_bytes;
+use text::Names;
+
+// The most contracts, and the most index names of all contracts together.
+const MOST_CONTRACTS: usize = 63;
+const MOST_NAMES: usize = 255;
+
+// A contract of the list with its number.
+#[derive(Clone, Copy)]
+pub(crate) struct Found<'a> {
+    number: u8,
+    contract: &'a HeldContract,
+}
+
+impl ContractList {
+    // A list with no contract, and with room for all that it may have.
+    pub fn new(heap: Global) -> Result<ContractList, AllocError>
+        ensures { λ r. ⌜ made r (λ list. contractsOf list ≡ []) ⌝ }
+    {
+        let contracts = Vec::with_capacity(heap, MOST_CONTRACTS)?;
+        Ok(ContractList { contracts })
+    }
+
+    // The contract with an id.
+    fn find(&self, id: &[u8]) -> Option<Found<'_>>
+        ensures { λ r. ⌜ foundIn r ≡ listed (contractsOf (now (self .entry))) (now (id .entry)) ⌝ }
+    {
+        let contracts = self.contracts.as_slice();
+        for i in 0..contracts.len() {
+            if same_bytes(contracts[i].id.as_slice(), id) {
+                return Some(Found { number: i as u8 + 1, contract: &contracts[i] });
+            }
+        }
+        None
+    }
+
+    // How many index names the contracts have in all.
+    fn name_count(&self) -> usize
+        ensures { λ r. ⌜ r ≡ names-in (contractsOf (now (self .entry))) ⌝ }
+    {
+        let mut n = 0;
+        let contracts = self.contracts.as_slice();
+        for contract in contracts {
+            n += contract.names.count as usize;
+        }
+        n
+    }
+
+    // Whether a contract may be added; its text tells the offsets of its fields.
+    fn check(&self, contract: &HeldContract, text: &[u8]) -> Result<(), ContractFault>
+        ensures { λ r. ⌜ addedIn r ≡ settled-by (now (text .entry)) tt (first-fit listing-rows (contractsOf (now (self .entry)), contractOf (now (contract .entry)))) ⌝ }
+    {
+        if self.find(contract.id.as_slice()).is_some() {
+            return Err(ContractFault::Listed);
+        }
+        if contract.kind.needs_style() && contract.style.is_blank() {
+            return Err(ContractFault::Style { at: field_offset(text, 3) });
+        }
+        if has_twice(contract.names.as_slice()) {
+            return Err(ContractFault::NameTwice { at: field_offset(text, 4) });
+        }
+        if self.contracts.len() >= MOST_CONTRACTS || self.name_count() + contract.names.count as usize > MOST_NAMES {
+            return Err(ContractFault::Full);
+        }
+        Ok(())
+    }
+
+    // Adds a contract by its text: its number, from 1 in the order of adding, or the first rule that it breaks.
+    pub fn add(&mut self, text: &[u8]) -> Result<u8, ContractFault>
+        ensures told { λ r. ⌜ addedIn r ≡ adding (contractsOf (now (self .entry))) (now (text .entry)) ⌝ }
+        ensures list { λ _. ⌜ contractsOf (now (self .exit)) ≡ added (contractsOf (now (self .entry))) (now (text .entry)) ⌝ }
+    {
+        let contract = read_contract(text)?;
+        self.check(&contract, text)?;
+        self.contracts.push_reserved(contract);
+        Ok(self.contracts.len() as u8)
+    }
+
+    // The contract number of a read line, or the first rule of the list that it breaks. At XBIL the number is 0 and no rule applies.
+    pub fn number_of(&self, report: &Report) -> Result<u8, ListFault>
+        ensures told { λ r. ⌜ numberIn r ≡ due (contractsOf (now (self .entry))) (said (now (report .entry))) ⌝ }
+        ensures small { λ r. ⌜ made r (λ n. n < 64) ⌝ }
+    {
+        if same_bytes(report.venue, b"XBIL") {
+            return Ok(0);
+        }
+        let Some(found) = self.find(report.contract) else {
+            return Err(ListFault::NotListed);
+        };
+        if !has_all(found.contract.names.as_slice(), report.names) {
+            return Err(ListFault::OtherName);
+        }
+        match report.names {
+            Names::None if found.contract.names.count >= 2 => Err(ListFault::NoName),
+            _ => Ok(found.number),
+        }
+    }
+}
