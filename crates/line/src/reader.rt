@@ -6,6 +6,7 @@ ghost use Prim.Native.Nat.{ℕ, _+_};
 ghost use lib.ListN.{drop};
 ghost use Rattle.std.specs.declared.option.Option.{Option};
 ghost use Rattle.text.specs.Forms.{«kind-form», «id-form», «venue-form», «code-form», «side-form», «action-form», «time-form», «quantity-form», «price-form», «names-form»};
+ghost use Rattle.line.specs.declared.faults.ReadFault.the-variants.{Form};
 ghost use Rattle.line.specs.Reads.{front, pace, «next-field», read, past, seen, seenIn, «as-read», «as-word», «as-number», «as-price», «as-names»};
 use crate::faults::ReadFault;
 use crate::parts::Part;
@@ -56,12 +57,43 @@ fn signed<'a>(price: Option<i64>, text: &'a [u8], at: usize) -> Part<'a>
     }
 }
 
-// What a field of one form says.
-pub trait Form {
+// The field at a place lacks its form.
+fn lacks_form(start: Place) -> ReadFault
+    ensures { λ r. ⌜ r ≡ Form (next-field (start .field)) (start .at) ⌝ }
+{
+    ReadFault::Form { field: start.field.saturating_add(1), at: start.at }
+}
+
+// A value that a field writes by its form.
+pub trait FieldForm {
     ghost form: { List ℕ → Option Self };
 
     fn said_by(text: &[u8]) -> Option<Self>
         ensures { λ r. ⌜ r ≡ form (now (text .entry)) ⌝ };
+}
+
+pub impl FieldForm for Kind as KindField {
+    ghost form = { kind-form };
+
+    fn said_by(text: &[u8]) -> Option<Kind> {
+        Kind::of(text)
+    }
+}
+
+pub impl FieldForm for Side as SideField {
+    ghost form = { side-form };
+
+    fn said_by(text: &[u8]) -> Option<Side> {
+        Side::of(text)
+    }
+}
+
+pub impl FieldForm for Action as ActionField {
+    ghost form = { action-form };
+
+    fn said_by(text: &[u8]) -> Option<Action> {
+        Action::of(text)
+    }
 }
 
 #[derive(Drop)]
@@ -79,9 +111,9 @@ impl<'a> Reader<'a> {
         Reader { line, place: Place { at: 0, field: 0 } }
     }
 
-    // A field of any form.
-    pub fn value<F: Form>(&mut self) -> Result<F, ReadFault>
-        ensures told { λ r. ⌜ r ≡ read as-read (F·Form .form) (now (self .entry) .place) (now (now (self .entry) .line)) ⌝ }
+    // The value that a field writes by its form.
+    pub fn value<F: FieldForm>(&mut self) -> Result<F, ReadFault>
+        ensures told { λ r. ⌜ r ≡ read as-read (F·FieldForm .form) (now (self .entry) .place) (now (now (self .entry) .line)) ⌝ }
         ensures place { λ r. ⌜ now (self .exit) .place ≡ past (now (self .entry) .place) (now (now (self .entry) .line)) r ⌝ }
         ensures line { λ _. ⌜ now (now (self .exit) .line) ≡ now (now (self .entry) .line) ⌝ }
     {
@@ -89,26 +121,10 @@ impl<'a> Reader<'a> {
         let mut guard = Rewind { place: &mut self.place, start, kept: false };
         let text = take_field(self.line, guard.place);
         let Some(value) = F::said_by(text) else {
-            return Err(ReadFault::Form { field: start.field.saturating_add(1), at: start.at });
+            return Err(lacks_form(start));
         };
         guard.kept = true;
         Ok(value)
-    }
-
-    // ORD or TRD.
-    pub fn kind(&mut self) -> Result<Kind, ReadFault>
-        ensures told { λ r. ⌜ r ≡ read as-read kind-form (now (self .entry) .place) (now (now (self .entry) .line)) ⌝ }
-        ensures place { λ r. ⌜ now (self .exit) .place ≡ past (now (self .entry) .place) (now (now (self .entry) .line)) r ⌝ }
-        ensures line { λ _. ⌜ now (now (self .exit) .line) ≡ now (now (self .entry) .line) ⌝ }
-    {
-        let start = self.place;
-        let mut guard = Rewind { place: &mut self.place, start, kept: false };
-        let text = take_field(self.line, guard.place);
-        let Some(kind) = Kind::of(text) else {
-            return Err(ReadFault::Form { field: start.field.saturating_add(1), at: start.at });
-        };
-        guard.kept = true;
-        Ok(kind)
     }
 
     // From `least` to `most` id bytes.
@@ -121,7 +137,7 @@ impl<'a> Reader<'a> {
         let mut guard = Rewind { place: &mut self.place, start, kept: false };
         let text = take_field(self.line, guard.place);
         if !is_id(text, least, most) {
-            return Err(ReadFault::Form { field: start.field.saturating_add(1), at: start.at });
+            return Err(lacks_form(start));
         }
         guard.kept = true;
         Ok(word(text, start.at))
@@ -137,7 +153,7 @@ impl<'a> Reader<'a> {
         let mut guard = Rewind { place: &mut self.place, start, kept: false };
         let text = take_field(self.line, guard.place);
         if !is_venue(text) {
-            return Err(ReadFault::Form { field: start.field.saturating_add(1), at: start.at });
+            return Err(lacks_form(start));
         }
         guard.kept = true;
         Ok(word(text, start.at))
@@ -153,42 +169,10 @@ impl<'a> Reader<'a> {
         let mut guard = Rewind { place: &mut self.place, start, kept: false };
         let text = take_field(self.line, guard.place);
         if !is_code(text) {
-            return Err(ReadFault::Form { field: start.field.saturating_add(1), at: start.at });
+            return Err(lacks_form(start));
         }
         guard.kept = true;
         Ok(word(text, start.at))
-    }
-
-    // B or S.
-    pub fn side(&mut self) -> Result<Side, ReadFault>
-        ensures told { λ r. ⌜ r ≡ read as-read side-form (now (self .entry) .place) (now (now (self .entry) .line)) ⌝ }
-        ensures place { λ r. ⌜ now (self .exit) .place ≡ past (now (self .entry) .place) (now (now (self .entry) .line)) r ⌝ }
-        ensures line { λ _. ⌜ now (now (self .exit) .line) ≡ now (now (self .entry) .line) ⌝ }
-    {
-        let start = self.place;
-        let mut guard = Rewind { place: &mut self.place, start, kept: false };
-        let text = take_field(self.line, guard.place);
-        let Some(side) = Side::of(text) else {
-            return Err(ReadFault::Form { field: start.field.saturating_add(1), at: start.at });
-        };
-        guard.kept = true;
-        Ok(side)
-    }
-
-    // One of the letters N, M, E and C.
-    pub fn action(&mut self) -> Result<Action, ReadFault>
-        ensures told { λ r. ⌜ r ≡ read as-read action-form (now (self .entry) .place) (now (now (self .entry) .line)) ⌝ }
-        ensures place { λ r. ⌜ now (self .exit) .place ≡ past (now (self .entry) .place) (now (now (self .entry) .line)) r ⌝ }
-        ensures line { λ _. ⌜ now (now (self .exit) .line) ≡ now (now (self .entry) .line) ⌝ }
-    {
-        let start = self.place;
-        let mut guard = Rewind { place: &mut self.place, start, kept: false };
-        let text = take_field(self.line, guard.place);
-        let Some(action) = Action::of(text) else {
-            return Err(ReadFault::Form { field: start.field.saturating_add(1), at: start.at });
-        };
-        guard.kept = true;
-        Ok(action)
     }
 
     // A time in seconds.
@@ -201,7 +185,7 @@ impl<'a> Reader<'a> {
         let mut guard = Rewind { place: &mut self.place, start, kept: false };
         let text = take_field(self.line, guard.place);
         let Some(value) = time_of(text) else {
-            return Err(ReadFault::Form { field: start.field.saturating_add(1), at: start.at });
+            return Err(lacks_form(start));
         };
         guard.kept = true;
         Ok(Part::Number { value: value as u64, text, at: start.at })
@@ -217,7 +201,7 @@ impl<'a> Reader<'a> {
         let mut guard = Rewind { place: &mut self.place, start, kept: false };
         let text = take_field(self.line, guard.place);
         let Some(value) = quantity_of(text) else {
-            return Err(ReadFault::Form { field: start.field.saturating_add(1), at: start.at });
+            return Err(lacks_form(start));
         };
         guard.kept = true;
         Ok(Part::Number { value, text, at: start.at })
@@ -233,7 +217,7 @@ impl<'a> Reader<'a> {
         let mut guard = Rewind { place: &mut self.place, start, kept: false };
         let text = take_field(self.line, guard.place);
         let Some(price) = price_of(text) else {
-            return Err(ReadFault::Form { field: start.field.saturating_add(1), at: start.at });
+            return Err(lacks_form(start));
         };
         guard.kept = true;
         Ok(signed(price, text, start.at))
@@ -249,7 +233,7 @@ impl<'a> Reader<'a> {
         let mut guard = Rewind { place: &mut self.place, start, kept: false };
         let text = take_field(self.line, guard.place);
         let Some(names) = Names::of(text) else {
-            return Err(ReadFault::Form { field: start.field.saturating_add(1), at: start.at });
+            return Err(lacks_form(start));
         };
         guard.kept = true;
         Ok(Part::Names { names, text, at: start.at })
