@@ -1,16 +1,16 @@
 // Prints what each line of the input says as a report line, or the number, field and offset of the first rule that it breaks.
-use line::read_line;
 use line::ReadFault;
 use line::Report;
+use line::read_line;
 use std::io;
 use std::io::Read;
 use std::io::Write;
-use text::rest_after;
-use text::span_to;
 use text::Action;
 use text::Kind;
 use text::Names;
 use text::Side;
+use text::rest_after;
+use text::span_to;
 
 const MOST_NAMES: usize = 8;
 

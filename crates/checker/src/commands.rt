@@ -19,13 +19,22 @@ pub fn answer(line: &[u8]) -> Result<(), Refusal>
     ensures { λ r. ⌜ refusedIn r ≡ answered (now (line .entry)) ⌝ }
 {
     if line.len() > LONGEST {
-        return Err(Refusal { number: 1, field: 0 });
+        return Err(Refusal {
+            number: 1,
+            field: 0,
+        });
     }
     if line.len() < 2 || !same_bytes(&line[0..2], b"P;") {
-        return Err(Refusal { number: 66, field: 0 });
+        return Err(Refusal {
+            number: 66,
+            field: 0,
+        });
     }
     match read_line(&line[2..]) {
         Ok(_) => Ok(()),
-        Err(fault) => Err(Refusal { number: fault.number(), field: fault.field() }),
+        Err(fault) => Err(Refusal {
+            number: fault.number(),
+            field: fault.field(),
+        }),
     }
 }

@@ -1,7 +1,8 @@
 // Reads lines from standard input and says of each report line whether its form is right.
 mod commands;
-use commands::answer;
+
 use commands::Refusal;
+use commands::answer;
 use std::io;
 use std::io::Read;
 use std::io::Write;

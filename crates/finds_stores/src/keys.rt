@@ -40,7 +40,12 @@ fn spread(number: u32, held: u32, among: u32) -> u32 {
 }
 
 // Keys of `among` of the numbers below `held`, evenly spread, in an order without a pattern.
-pub(crate) fn queries(heap: Global, finds: usize, held: u32, among: u32) -> Result<Vec<Key>, AllocError> {
+pub(crate) fn queries(
+    heap: Global,
+    finds: usize,
+    held: u32,
+    among: u32,
+) -> Result<Vec<Key>, AllocError> {
     let mut keys = Vec::new(heap);
     let mut state: u64 = 1;
     for _ in 0..finds {

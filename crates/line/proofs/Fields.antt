@@ -70,8 +70,8 @@ second k bs h =
     ⊎-elim
     (λ (y : ltb (span-to 59 bs) (length bs) ≡ true). y)
     (λ (n : ltb (span-to 59 bs) (length bs) ≡ false).
-        let l = ap (λ t. length (after-at 59 t (pace bs) bs)) n in
-        absurd (omega (arith, long, l)))
+    let l = ap (λ t. length (after-at 59 t (pace bs) bs)) n in
+    absurd (omega (arith, long, l)))
     (cases-bool (ltb (span-to 59 bs) (length bs)))
 
 -- and the others are those of what comes after it
@@ -104,4 +104,3 @@ starts (suc k) bs h =
     offset-shift k bs
     ∙ (λ i. pace-is bs (second k bs h) i + starts k (drop (pace bs) bs) (omega (arith, l)) i)
     ∙ sym (ap (λ fs. start (suc (suc k)) fs) e)
-

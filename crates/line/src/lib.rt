@@ -5,6 +5,7 @@ mod parts;
 mod place;
 mod reader;
 mod report;
+
 pub use faults::ReadFault;
 pub use faults::ReadFaultDebug;
 pub use faults::ReadFaultPartialEq;
@@ -16,6 +17,6 @@ pub use reader::FieldForm;
 pub use reader::KindField;
 pub use reader::Reader;
 pub use reader::SideField;
-pub use report::read_line;
-pub use report::Report;
 pub use report::LONGEST_LINE;
+pub use report::Report;
+pub use report::read_line;

@@ -12,6 +12,10 @@ use crate::faults::ReadFault;
 use crate::parts::Part;
 use crate::place::Place;
 use crate::place::Rewind;
+use text::Action;
+use text::Kind;
+use text::Names;
+use text::Side;
 use text::is_code;
 use text::is_id;
 use text::is_venue;
@@ -19,10 +23,6 @@ use text::price_of;
 use text::quantity_of;
 use text::span_to;
 use text::time_of;
-use text::Action;
-use text::Kind;
-use text::Names;
-use text::Side;
 
 // The bytes up to the next separator; the place is past it then.
 fn take_field<'a>(line: &'a [u8], place: &mut Place) -> &'a [u8]
@@ -44,7 +44,11 @@ fn take_field<'a>(line: &'a [u8], place: &mut Place) -> &'a [u8]
 fn word<'a>(text: &'a [u8], at: usize) -> Part<'a>
     ensures { λ r. ⌜ seen r ≡ as-word (now (text .entry)) at (now (text .entry)) ⌝ }
 {
-    if text.len() == 0 { Part::Blank { at } } else { Part::Word { text, at } }
+    if text.len() == 0 {
+        Part::Blank { at }
+    } else {
+        Part::Word { text, at }
+    }
 }
 
 // A signed number, or a blank where there is none.
@@ -61,7 +65,10 @@ fn signed<'a>(price: Option<i64>, text: &'a [u8], at: usize) -> Part<'a>
 fn lacks_form(start: Place) -> ReadFault
     ensures { λ r. ⌜ r ≡ Form (next-field (start .field)) (start .at) ⌝ }
 {
-    ReadFault::Form { field: start.field.saturating_add(1), at: start.at }
+    ReadFault::Form {
+        field: start.field.saturating_add(1),
+        at: start.at,
+    }
 }
 
 // A value that a field writes by its form.
@@ -108,7 +115,10 @@ impl<'a> Reader<'a> {
         ensures line { λ r. ⌜ now (r .line) ≡ now (line .entry) ⌝ }
         ensures place { λ r. ⌜ r .place ≡ record { at = 0; field = 0 } ⌝ }
     {
-        Reader { line, place: Place { at: 0, field: 0 } }
+        Reader {
+            line,
+            place: Place { at: 0, field: 0 },
+        }
     }
 
     // The value that a field writes by its form.
@@ -118,7 +128,11 @@ impl<'a> Reader<'a> {
         ensures line { λ _. ⌜ now (now (self .exit) .line) ≡ now (now (self .entry) .line) ⌝ }
     {
         let start = self.place;
-        let mut guard = Rewind { place: &mut self.place, start, kept: false };
+        let mut guard = Rewind {
+            place: &mut self.place,
+            start,
+            kept: false,
+        };
         let text = take_field(self.line, guard.place);
         let Some(value) = F::said_by(text) else {
             return Err(lacks_form(start));
@@ -134,7 +148,11 @@ impl<'a> Reader<'a> {
         ensures line { λ _. ⌜ now (now (self .exit) .line) ≡ now (now (self .entry) .line) ⌝ }
     {
         let start = self.place;
-        let mut guard = Rewind { place: &mut self.place, start, kept: false };
+        let mut guard = Rewind {
+            place: &mut self.place,
+            start,
+            kept: false,
+        };
         let text = take_field(self.line, guard.place);
         if !is_id(text, least, most) {
             return Err(lacks_form(start));
@@ -150,7 +168,11 @@ impl<'a> Reader<'a> {
         ensures line { λ _. ⌜ now (now (self .exit) .line) ≡ now (now (self .entry) .line) ⌝ }
     {
         let start = self.place;
-        let mut guard = Rewind { place: &mut self.place, start, kept: false };
+        let mut guard = Rewind {
+            place: &mut self.place,
+            start,
+            kept: false,
+        };
         let text = take_field(self.line, guard.place);
         if !is_venue(text) {
             return Err(lacks_form(start));
@@ -166,7 +188,11 @@ impl<'a> Reader<'a> {
         ensures line { λ _. ⌜ now (now (self .exit) .line) ≡ now (now (self .entry) .line) ⌝ }
     {
         let start = self.place;
-        let mut guard = Rewind { place: &mut self.place, start, kept: false };
+        let mut guard = Rewind {
+            place: &mut self.place,
+            start,
+            kept: false,
+        };
         let text = take_field(self.line, guard.place);
         if !is_code(text) {
             return Err(lacks_form(start));
@@ -182,13 +208,21 @@ impl<'a> Reader<'a> {
         ensures line { λ _. ⌜ now (now (self .exit) .line) ≡ now (now (self .entry) .line) ⌝ }
     {
         let start = self.place;
-        let mut guard = Rewind { place: &mut self.place, start, kept: false };
+        let mut guard = Rewind {
+            place: &mut self.place,
+            start,
+            kept: false,
+        };
         let text = take_field(self.line, guard.place);
         let Some(value) = time_of(text) else {
             return Err(lacks_form(start));
         };
         guard.kept = true;
-        Ok(Part::Number { value: value as u64, text, at: start.at })
+        Ok(Part::Number {
+            value: value as u64,
+            text,
+            at: start.at,
+        })
     }
 
     // A quantity in hundred-thousandths.
@@ -198,13 +232,21 @@ impl<'a> Reader<'a> {
         ensures line { λ _. ⌜ now (now (self .exit) .line) ≡ now (now (self .entry) .line) ⌝ }
     {
         let start = self.place;
-        let mut guard = Rewind { place: &mut self.place, start, kept: false };
+        let mut guard = Rewind {
+            place: &mut self.place,
+            start,
+            kept: false,
+        };
         let text = take_field(self.line, guard.place);
         let Some(value) = quantity_of(text) else {
             return Err(lacks_form(start));
         };
         guard.kept = true;
-        Ok(Part::Number { value, text, at: start.at })
+        Ok(Part::Number {
+            value,
+            text,
+            at: start.at,
+        })
     }
 
     // A price in hundred-thousandths, or a blank.
@@ -214,7 +256,11 @@ impl<'a> Reader<'a> {
         ensures line { λ _. ⌜ now (now (self .exit) .line) ≡ now (now (self .entry) .line) ⌝ }
     {
         let start = self.place;
-        let mut guard = Rewind { place: &mut self.place, start, kept: false };
+        let mut guard = Rewind {
+            place: &mut self.place,
+            start,
+            kept: false,
+        };
         let text = take_field(self.line, guard.place);
         let Some(price) = price_of(text) else {
             return Err(lacks_form(start));
@@ -230,12 +276,20 @@ impl<'a> Reader<'a> {
         ensures line { λ _. ⌜ now (now (self .exit) .line) ≡ now (now (self .entry) .line) ⌝ }
     {
         let start = self.place;
-        let mut guard = Rewind { place: &mut self.place, start, kept: false };
+        let mut guard = Rewind {
+            place: &mut self.place,
+            start,
+            kept: false,
+        };
         let text = take_field(self.line, guard.place);
         let Some(names) = Names::of(text) else {
             return Err(lacks_form(start));
         };
         guard.kept = true;
-        Ok(Part::Names { names, text, at: start.at })
+        Ok(Part::Names {
+            names,
+            text,
+            at: start.at,
+        })
     }
 }

@@ -45,5 +45,6 @@ one-fitted bs v n f at (Some r) e =
   where
     sym-of : {x y : ℕ} → x ≡ y → y ≡ x
     sym-of e = cc
+
     sym-pair : {x y u w : ℕ} → x ≡ y → u ≡ w → _≡_ {A = ℕ × ℕ} (y, w) (x, u)
     sym-pair p q i = (sym-of p i, sym-of q i)

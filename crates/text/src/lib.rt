@@ -9,7 +9,6 @@ mod texts;
 mod words;
 
 pub use bounded::Text;
-pub use classes::all_of;
 pub use classes::ByteClass;
 pub use classes::Capitals;
 pub use classes::CapitalsClass;
@@ -21,6 +20,7 @@ pub use classes::IdBytes;
 pub use classes::IdBytesClass;
 pub use classes::LettersOrDigits;
 pub use classes::LettersOrDigitsClass;
+pub use classes::all_of;
 pub use codes::is_code;
 pub use codes::is_id;
 pub use codes::is_venue;

@@ -19,7 +19,10 @@ impl<const N: usize> Text<N> {
     pub fn empty() -> Text<N>
         ensures { λ r. ⌜ textOf r ≡ [] ⌝ }
     {
-        Text { bytes: [0; N], len: 0 }
+        Text {
+            bytes: [0; N],
+            len: 0,
+        }
     }
 
     // The bytes as a text, if they are few enough.
