@@ -1,0 +1,4 @@
+pub mod Buffers
+pub mod Drafts
+pub mod Faults
+pub mod Lines

@@ -1,0 +1,6 @@
+// The text of the answer lines, written to the front of a buffer of the caller's.
+mod drafts;
+mod faults;
+mod lines;
+pub use faults::OutputFault;
+pub use lines::AnswerLine;
