@@ -7,7 +7,7 @@ ghost use lib.ListN.{length, take};
 ghost use Rattle.std.specs.Written.{decimal, signed};
 ghost use Rattle.output.specs.Buffers.{Wrote};
 ghost use Rattle.output.specs.Drafts.{Put};
-ghost use Rattle.output.specs.Lines.{hexadecimal, «line-text»};
+ghost use Rattle.output.specs.Lines.{hexadecimal, «code-text», «line-text»};
 use crate::drafts::put;
 use crate::drafts::put_hexadecimal;
 use crate::drafts::put_number;
@@ -15,12 +15,12 @@ use crate::drafts::put_signed;
 use crate::faults::OutputFault;
 
 // A line that the program answers.
-#[derive(Clone, Copy, PartialEq, Eq, Debug)]
-pub enum AnswerLine<'a> {
+#[derive(Clone, Copy)]
+pub enum AnswerLine {
     // a line or a call was accepted
     Accepted,
     // it was refused, with the number, the field and the code of the rule
-    Refused { number: u16, field: u8, code: Option<&'a [u8]> },
+    Refused { number: u16, field: u8, code: Option<&'static [u8]> },
     // the sum of a contract
     Position { contract: usize, sum: i64 },
     // the check word of the register
@@ -29,10 +29,10 @@ pub enum AnswerLine<'a> {
     Receipt { judged: u32, accepted: u32, refused: u32 },
 }
 
-// The most bytes of a line before its code and its line feed.
-const FRONT: usize = 64;
+// Room for a line of four words without its code and its line feed.
+pub(crate) const FRONT: usize = 64;
 
-impl AnswerLine<'_> {
+impl AnswerLine {
     // Writes the line to the front of the buffer.
     pub fn write(&self, out: &mut [u8]) -> Result<usize, OutputFault>
         ensures { λ r. ⌜ Wrote (now (out .entry)) (line-text (now (self .entry))) r (now (out .exit)) ⌝ }
@@ -42,7 +42,7 @@ impl AnswerLine<'_> {
             AnswerLine::Accepted => write_parts(out, b"A", b""),
             AnswerLine::Refused { number, field, code } => {
                 let n = put_refused(&mut front, number, field);
-                write_parts(out, &front[0..n], code.unwrap_or(b"-"))
+                write_parts(out, &front[0..n], shown_code(code))
             }
             AnswerLine::Position { contract, sum } => {
                 let n = put_position(&mut front, contract, sum);
@@ -72,7 +72,17 @@ fn write_parts(out: &mut [u8], front: &[u8], last: &[u8]) -> Result<usize, Outpu
     Ok(put(out, at, b"\n"))
 }
 
-// The line without its code and its line feed: the part that `write` puts before them.
+// A code, or a hyphen for none.
+fn shown_code(code: Option<&'static [u8]>) -> &'static [u8]
+    ensures { λ r. ⌜ now r ≡ code-text (code .entry) ⌝ }
+{
+    match code {
+        Some(code) => code,
+        None => b"-",
+    }
+}
+
+// The line up to its code.
 fn put_refused(line: &mut [u8], number: u16, field: u8) -> usize
     requires { ⌜ length (now line) ≡ 64 ⌝ }
     ensures put { λ r. ⌜ Put (now (line .entry)) 0 (codes "R" ++ (32 ∷ (decimal number ++ (32 ∷ (decimal field ++ codes " "))))) r (now (line .exit)) ⌝ }

@@ -2,7 +2,8 @@ use mathlib.Core.List.{List, [], _∷_, _++_}
 use Prim.Native.Nat.{_+_, _<_, _≤_}
 use native.Mathlib.Omega.{arith}
 use lib.ListN.{length, length-append}
-use Rattle.output.proofs.Puts.{then, fills, leaves}
+use Rattle.output.proofs.Puts.{then}
+use Rattle.output.proofs.Writes.{fills, leaves}
 use Rattle.output.proofs.lines.write_parts.Needs as need
 use Rattle.output.proofs.lines.write_parts.Needs.{then-front-out·by·then-front-out, then-front-out·by·else-front-out·then-last-out}
 
