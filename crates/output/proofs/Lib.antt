@@ -1,4 +1,5 @@
 pub mod Digits
+pub mod Examples
 pub mod Puts
 pub mod Reports
 pub mod Writes

@@ -5,8 +5,10 @@ ghost use Prim.Native.Nat.{_≤_};
 ghost use lib.Chars.{codes};
 ghost use lib.ListN.{length, take};
 ghost use Rattle.std.specs.Written.{decimal, signed};
+ghost use Rattle.std.specs.shelf.Lists.{All};
 ghost use Rattle.output.specs.Buffers.{Wrote};
 ghost use Rattle.output.specs.Drafts.{Put};
+ghost use Rattle.output.specs.Examples.{Stands, examples};
 ghost use Rattle.output.specs.Lines.{hexadecimal, «code-text», «line-text»};
 use crate::drafts::put;
 use crate::drafts::put_hexadecimal;
@@ -33,9 +35,10 @@ pub enum AnswerLine {
 pub(crate) const FRONT: usize = 64;
 
 impl AnswerLine {
-    // Writes the line to the front of the buffer.
+    // Writes the line to the front of the buffer. Lines and their texts stand as examples.
     pub fn write(&self, out: &mut [u8]) -> Result<usize, OutputFault>
-        ensures { λ r. ⌜ Wrote (now (out .entry)) (line-text (now (self .entry))) r (now (out .exit)) ⌝ }
+        ensures text { λ r. ⌜ Wrote (now (out .entry)) (line-text (now (self .entry))) r (now (out .exit)) ⌝ }
+        ensures examples { λ _. ⌜ All Stands examples ⌝ }
     {
         let mut front = [0u8; FRONT];
         match *self {

@@ -19,4 +19,4 @@ returns c =
     let z = c .args .sum in
     let same = ap (λ y. line-text (Position (c .args .contract) y)) (toZ-ofZ w64 z (c .fits .sum)) in
     let text = same ∙ sym (position-some (c .args .contract) z (c .if-sum-eq0 .left)) in
-    subst (λ t. Wrote (c .args .out .now) t (c .write .result) (c .write .last .out)) text (c .write .ensures)
+    subst (λ t. Wrote (c .args .out .now) t (c .write .result) (c .write .last .out)) text (c .write .ensures .text)
