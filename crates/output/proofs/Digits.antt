@@ -9,7 +9,7 @@ use lib.IntN.{ℤ, pos, negsuc, natAbs}
 use lib.ListN.{length, take, drop, set, length-set, length-drop}
 use lib.Signed.{ltZ}
 use Rattle.std.specs.Written.{decimal, signed, glyph}
-use Rattle.std.proofs.shelf.Lists.{drop-set, length-push, take-all, take-append-drop, take-set-le}
+use Rattle.std.proofs.shelf.Lists.{drop-set, length-push, take-all, take-append-drop}
 use Rattle.std.proofs.shelf.Decimals.{decimal-step, decimal-digit, length-decimal-le}
 use Rattle.output.specs.Lines.{hexadecimal}
 

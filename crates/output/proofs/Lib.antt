@@ -1,5 +1,4 @@
 pub mod Digits
-pub mod Examples
 pub mod Puts
 pub mod Reports
 pub mod Writes

@@ -14,7 +14,7 @@ further m k xs ys e = sym (drop-drop k m xs) ∙ ap (drop k) e ∙ drop-drop k m
 module _ {line between after one two : List ℕ} {at m end : ℕ} where
   pub then : Put line at one m between → Put between m two end after → Put line at (one ++ two) end after
   then p q = record {
-      ends = omega (arith, p .ends, q .ends, length-append one two);
-      front = q .front ∙ ap (λ l. l ++ two) (p .front) ∙ append-assoc (take at line) one two;
-      rest = q .rest ∙ subst (λ k. drop k between ≡ drop k line) (sym (q .ends)) (further m (length two) between line (p .rest));
-    }
+    ends = omega (arith, p .ends, q .ends, length-append one two);
+    front = q .front ∙ ap (λ l. l ++ two) (p .front) ∙ append-assoc (take at line) one two;
+    rest = q .rest ∙ subst (λ k. drop k between ≡ drop k line) (sym (q .ends)) (further m (length two) between line (p .rest));
+  }

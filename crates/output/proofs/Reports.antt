@@ -2,7 +2,7 @@
 use mathlib.Core.Bool.{true, false}
 use mathlib.Core.Path.{_≡_, refl, sym, ap, _∙_}
 use mathlib.Core.List.{List, [], _++_}
-use Prim.Native.Nat.{ℕ, _+_, _-_, _<_, _≤_}
+use Prim.Native.Nat.{ℕ, _+_, _<_, _≤_}
 use native.Mathlib.Omega.{arith}
 use borrow.Author.Tests.{eq-eqb, ne-eqb}
 use lib.Dec.{eqb}
@@ -39,6 +39,9 @@ position-some k z ne = let some : eqb (natAbs z) 0 ≡ false = ne-eqb (natAbs z)
 module _ (sums : List ℤ) (k : ℕ) where
   pub positions-more : k < length sums → positions-from k (drop k sums) ≡ position-text k (getD sums k (pos 0)) ++ positions-from (k + 1) (drop (k + 1) sums)
   positions-more within = at-drop-more (positions-from k) sums k (pos 0) within
+
+  pub length-positions-more : k < length sums → length (positions-from k (drop k sums)) ≡ length (position-text k (getD sums k (pos 0))) + length (positions-from (k + 1) (drop (k + 1) sums))
+  length-positions-more within = ap length (positions-more within) ∙ length-append (position-text k (getD sums k (pos 0))) (positions-from (k + 1) (drop (k + 1) sums))
 
   pub positions-all : length sums ≤ k → positions-from k (drop k sums) ≡ []
   positions-all past = at-drop-all (positions-from k) sums k past

@@ -1,18 +1,17 @@
 -- Writing to the front of a buffer, and then to the front of its rest.
 use mathlib.Core.Bool.{Bool, true, false, cond}
-use mathlib.Core.Path.{_≡_, refl, sym, ap, subst, _∙_}
+use mathlib.Core.Path.{_≡_, refl, sym, ap, _∙_}
 use mathlib.Core.List.{List, [], _++_, append-assoc, append-nil}
 use Prim.Native.Nat.{ℕ, _+_, _-_, _<_, _≤_}
 use native.Mathlib.Omega.{arith}
 use borrow.Author.Tests.{le-leb, lt-leb, leb-true, leb-false}
 use borrow.Rule.Slice.PartMut.{putMid}
 use lib.ListN.{length, take, drop, length-drop}
-use Rattle.std.specs.declared.result.Result.{Result}
 use Rattle.std.specs.declared.result.Result.the-variants.{Ok, Err}
 use Rattle.std.proofs.shelf.Lists.{take-at, drop-at, take-rest, drop-all, drop-drop, take-append-drop}
 use Rattle.output.specs.declared.faults.OutputFault.{OutputFault}
 use Rattle.output.specs.declared.faults.OutputFault.the-variants.{TooShort}
-use Rattle.output.specs.Buffers.{Wrote, fits, answered, filled}
+use Rattle.output.specs.Buffers.{Wrote, fits}
 use Rattle.output.specs.Drafts.{Put}
 
 -- a text at the front of a buffer that has room for it

@@ -3,6 +3,7 @@ mod drafts;
 mod faults;
 mod lines;
 mod positions;
+
 pub use faults::OutputFault;
 pub use lines::AnswerLine;
 pub use positions::write_positions;

@@ -1,10 +1,8 @@
-use borrow.Author.Needs.{needs}
-use mathlib.Core.Path.{_≡_, refl, sym, ap, subst}
-use mathlib.Core.List.{append-nil, List}
-use Prim.Native.Nat.{ℕ, _-_, _+_, _/_, _%_, _<_, _≤_}
+use mathlib.Core.Path.{refl, ap, subst}
+use mathlib.Core.List.{append-nil}
+use Prim.Native.Nat.{_<_}
 use native.Mathlib.Omega.{arith}
 use lib.ListN.{length, length-set}
-use Rattle.std.specs.Written.{decimal}
 use Rattle.std.proofs.shelf.Decimals.{decimal-some}
 use Rattle.output.specs.Drafts.{Put}
 use Rattle.output.proofs.Digits.{at-most-twenty, one-shorter, decimal-turn, decimal-last}
@@ -21,8 +19,7 @@ loop-rest-again c =
     let i = c .loop-rest .inv in
     let m = c .loop-rest .rest in
     let ten = c .loop-rest-test .taken in
-    let some : 0 < c .loop-rest .from = omega (arith, decimal-some m (i .4)) in
-    (
+    let some : 0 < c .loop-rest .from = omega (arith, decimal-some m (i .4)) in (
       decimal-turn (c .args .n) m (c .loop-rest .from) (c .loop-rest .digits) ten (i .4) some (omega arith) (i .0),
       omega (arith, one-shorter m ten (i .4)),
       omega arith,

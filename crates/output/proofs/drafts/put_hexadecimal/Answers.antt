@@ -1,8 +1,8 @@
-use mathlib.Core.Path.{_≡_, sym, ap, subst, _∙_}
-use mathlib.Core.List.{List, [], _++_, _∷_}
-use Prim.Native.Nat.{ℕ, _+_, _-_, _/_, _≤_}
+use mathlib.Core.Path.{_≡_, sym, subst, _∙_}
+use mathlib.Core.List.{_++_}
+use Prim.Native.Nat.{_+_, _-_, _/_}
 use native.Mathlib.Omega.{arith}
-use lib.ListN.{length, length-set, take, drop, set}
+use lib.ListN.{length-set, drop, set}
 use Rattle.std.proofs.shelf.Lists.{take-set-le}
 use Rattle.output.specs.Drafts.{Put}
 use Rattle.output.specs.Lines.{hexadecimal}
@@ -16,8 +16,7 @@ loop-from-again c =
     let k = c .loop-from .from in
     let digit = c .hex-digit .result in
     let text = hexadecimal 16 (c .args .word) in
-    let turned = hexadecimal-turn text ds k (c .loop-from .rest) (omega arith) (omega (arith, i .3)) (i .0) in
-    (
+    let turned = hexadecimal-turn text ds k (c .loop-from .rest) (omega arith) (omega (arith, i .3)) (i .0) in (
       subst (λ v. hexadecimal (k - 1) (c .loop-from .rest / 16) ++ drop (k - 1 + 1) (set ds k v) ≡ text) (sym (c .hex-digit .ensures)) turned,
       take-set-le 1 ds k digit (omega arith) ∙ i .1,
       omega arith,

@@ -1,4 +1,3 @@
-use borrow.Author.Needs.{needs}
 use native.Mathlib.Omega.{arith}
 use Rattle.output.proofs.Puts.{then}
 use Rattle.output.proofs.drafts.put_number.Needs as need

@@ -1,10 +1,10 @@
 use mathlib.Core.Path.{_≡_, sym, ap, subst, _∙_}
-use mathlib.Core.List.{List, _∷_}
+use mathlib.Core.List.{_∷_}
 use native.Mathlib.Omega.{arith}
 use lib.IntN.{pos, natAbs}
 use lib.Signed.{ltZ}
 use mir.Syntax.{w64}
-use Rattle.std.specs.Written.{decimal, signed}
+use Rattle.std.specs.Written.{decimal}
 use Rattle.std.proofs.shelf.Signed.{toZ-ofZ}
 use Rattle.output.specs.Drafts.{Put}
 use Rattle.output.proofs.Digits.{signed-below, signed-from}

@@ -4,6 +4,6 @@ use Rattle.output.proofs.lines.put_check_word.Needs as need
 
 pub returns : need.returns
 returns c = record {
-    put = then (c .put-n .ensures) (c .put-hexadecimal .ensures .put);
-    within = omega (arith, c .put-n .ensures .ends);
-  }
+  put = then (c .put-n .ensures) (c .put-hexadecimal .ensures .put);
+  within = omega (arith, c .put-n .ensures .ends);
+}

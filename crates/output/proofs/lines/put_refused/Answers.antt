@@ -4,6 +4,6 @@ use Rattle.output.proofs.lines.put_refused.Needs as need
 
 pub returns : need.returns
 returns c = record {
-    put = then (c .put-n .ensures) (then (c .put-number-n .ensures .put) (then (c .put-number-n-2 .ensures .put) (c .put .ensures)));
-    within = omega (arith, c .put-n .ensures .ends, c .put .ensures .ends);
-  }
+  put = then (c .put-n .ensures) (then (c .put-number-n .ensures .put) (then (c .put-number-n-2 .ensures .put) (c .put .ensures)));
+  within = omega (arith, c .put-n .ensures .ends, c .put .ensures .ends);
+}

@@ -1,4 +1,4 @@
-use mathlib.Core.List.{List, [], _∷_, _++_}
+use mathlib.Core.List.{[], _∷_, _++_}
 use Prim.Native.Nat.{_+_, _<_, _≤_}
 use native.Mathlib.Omega.{arith}
 use lib.ListN.{length, length-append}
@@ -12,10 +12,10 @@ returns-then-front-out c =
     let front = c .args .front .now in
     let last = c .args .last .now in
     let short : length (c .args .out .now) < length (front ++ (last ++ (10 ∷ []))) =
-        elim (c .then-front-out .came) [
-          then-front-out·by·then-front-out w ↦ simp length-append (omega (arith, w .if-front-out .taken))
-        | then-front-out·by·else-front-out·then-last-out w ↦ simp length-append (omega (arith, w .if-front-out .left, w .if-last-out .taken))
-        ] in
+    elim (c .then-front-out .came) [
+      | then-front-out·by·then-front-out w ↦ simp length-append (omega (arith, w .if-front-out .taken))
+      | then-front-out·by·else-front-out·then-last-out w ↦ simp length-append (omega (arith, w .if-front-out .left, w .if-last-out .taken))
+    ] in
     leaves short
 
 pub returns : need.returns

@@ -1,4 +1,4 @@
-use mathlib.Core.Path.{_≡_, sym, ap, subst, _∙_}
+use mathlib.Core.Path.{sym, ap, subst, _∙_}
 use mir.Syntax.{w64}
 use Rattle.std.specs.declared.result.Result.the-variants.{Ok}
 use Rattle.std.proofs.shelf.Signed.{toZ-ofZ}
@@ -19,4 +19,4 @@ returns c =
     let z = c .args .sum in
     let same = ap (λ y. line-text (Position (c .args .contract) y)) (toZ-ofZ w64 z (c .fits .sum)) in
     let text = same ∙ sym (position-some (c .args .contract) z (c .if-sum-eq0 .left)) in
-    subst (λ t. Wrote (c .args .out .now) t (c .write .result) (c .write .last .out)) text (c .write .ensures .text)
+    subst (λ t. Wrote (c .args .out .now) t (c .write .result) (c .write .last .out)) text (c .write .ensures)

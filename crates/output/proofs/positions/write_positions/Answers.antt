@@ -1,15 +1,14 @@
 use borrow.Author.Needs.{needs}
 use borrow.Author.Tests.{leb-true}
 use mathlib.Core.Path.{_≡_, sym, ap, subst, _∙_}
-use mathlib.Core.List.{List, [], _++_}
-use Prim.Native.Nat.{ℕ, _+_, _-_, _<_, _≤_}
+use mathlib.Core.List.{_++_}
+use Prim.Native.Nat.{_+_, _-_}
 use native.Mathlib.Omega.{arith}
-use borrow.Rule.Slice.PartMut.{putMid}
 use lib.IntN.{ℤ, pos}
 use lib.ListN.{length, take, drop, getD, length-drop}
 use mir.Syntax.{w64}
 use mir.Val.{SFits}
-use Rattle.std.specs.declared.result.Result.the-variants.{Ok, Err}
+use Rattle.std.specs.declared.result.Result.the-variants.{Ok}
 use Rattle.std.proofs.shelf.Lists.{length-take-le, take-all, take-rest}
 use Rattle.std.proofs.shelf.Signed.{toZ-ofZ}
 use Rattle.output.specs.Buffers.{Wrote}
@@ -53,8 +52,7 @@ loop-contract-again c =
     let told = done (subst (λ y. Wrote (take (length out - at) (drop at out)) (position-text k y) (Ok n) now) (toZ-ofZ w64 z fits) (c .in-Continue-at .ensures tt)) in
     let begun : at ≡ length (take at text) = sym (length-take-le at text (inv .1)) in
     let written = rest-written was (take at text) part at n out now begun (inv .2) (told .holds) in
-    let more = subst (λ j. take (at + j) text ≡ take at text ++ part) (sym (told .long)) (take-part text part rest at left) in
-    (
+    let more = subst (λ j. take (at + j) text ≡ take at text ++ part) (sym (told .long)) (take-part text part rest at left) in (
       subst (λ j. drop (at + j) text ≡ rest) (sym (told .long)) (drop-part text part rest at left),
       omega (arith, told .long, part-within text part rest at left (inv .1)),
       written ∙ ap (λ l. l ++ drop (at + n) was) (sym more),

@@ -1,16 +1,12 @@
-use borrow.Author.Needs.{needs}
 use mathlib.Core.Path.{_≡_, sym, ap, subst, _∙_}
-use mathlib.Core.List.{List, [], _∷_, _++_, append-assoc}
+use mathlib.Core.List.{List, _∷_, _++_, append-assoc}
 use Prim.Native.Nat.{ℕ, _-_}
 use native.Mathlib.Omega.{arith}
 use lib.Chars.{codes}
 use lib.ListN.{take}
 use Rattle.std.specs.Written.{decimal}
 use Rattle.output.specs.Buffers.{Wrote}
-use Rattle.output.specs.Drafts.{Put}
 use Rattle.output.specs.Lines.{line-text, code-text}
-use Rattle.output.specs.declared.lines.AnswerLine.the-variants.{Refused}
-use Rattle.output.proofs.Examples.{examples-stand}
 use Rattle.output.proofs.lines.AnswerLine.write.Needs as need
 
 -- the parts of a refusal's line
@@ -26,16 +22,4 @@ returns-in-Refused c =
     let all : c .put-refused-n .result - 0 ≡ c .put-refused-n .result = omega arith in
     let front = ap (λ k. take k (c .put-refused-n .last .line)) all ∙ c .put-refused-n .ensures .put .front in
     let text = (λ j. front j ++ (c .shown-code .ensures j ++ codes "\n")) ∙ parts (i .number) (i .field) (code-text (i .code)) ∙ ap line-text (sym (i .is)) in
-    record { text = subst (λ t. Wrote out t result after) text (c .write-parts-in-Refused .ensures); examples = examples-stand }
-
-pub returns-in-Accepted : need.returns-in-Accepted
-returns-in-Accepted c = record { text = search needs; examples = examples-stand }
-
-pub returns-in-Position : need.returns-in-Position
-returns-in-Position c = record { text = search needs; examples = examples-stand }
-
-pub returns-in-CheckWord : need.returns-in-CheckWord
-returns-in-CheckWord c = record { text = search needs; examples = examples-stand }
-
-pub returns-in-Receipt : need.returns-in-Receipt
-returns-in-Receipt c = record { text = search needs; examples = examples-stand }
+    subst (λ t. Wrote out t result after) text (c .write-parts-in-Refused .ensures)
