@@ -1,7 +1,8 @@
 // Adding contracts, and what a read line owes to the list.
 ghost use mathlib.Core.Path.{_≡_};
 ghost use mathlib.Core.List.{[]};
-ghost use Prim.Native.Nat.{_<_};
+ghost use Prim.Native.Nat.{_<_, _≤_};
+ghost use Rattle.std.specs.Of.Vec.{vec-len};
 ghost use Rattle.std.specs.Vec.{made};
 ghost use Rattle.text.specs.Rows.{«first-fit», «settled-by»};
 ghost use Rattle.line.specs.Reports.{said};
@@ -48,8 +49,9 @@ impl ContractList {
     {
         let contracts = self.contracts.as_slice();
         for i in 0..contracts.len() {
-            if same_bytes(contracts[i].id.as_slice(), id) {
-                return Some(Found { number: i as u8 + 1, contract: &contracts[i] });
+            let contract = &contracts[i];
+            if same_bytes(contract.id.as_slice(), id) {
+                return Some(Found { number: i as u8 + 1, contract });
             }
         }
         None
@@ -57,7 +59,8 @@ impl ContractList {
 
     // How many index names the contracts have in all.
     fn name_count(&self) -> usize
-        ensures { λ r. ⌜ r ≡ names-in (contractsOf (now (self .entry))) ⌝ }
+        ensures value { λ r. ⌜ r ≡ names-in (contractsOf (now (self .entry))) ⌝ }
+        ensures small { λ r. ⌜ r ≤ 504 ⌝ }
     {
         let mut n = 0;
         let contracts = self.contracts.as_slice();
@@ -69,7 +72,8 @@ impl ContractList {
 
     // Whether a contract may be added; its text tells the offsets of its fields.
     fn check(&self, contract: &HeldContract, text: &[u8]) -> Result<(), ContractFault>
-        ensures { λ r. ⌜ addedIn r ≡ settled-by (now (text .entry)) tt (first-fit listing-rows (contractsOf (now (self .entry)), contractOf (now (contract .entry)))) ⌝ }
+        ensures told { λ r. ⌜ addedIn r ≡ settled-by (now (text .entry)) tt (first-fit listing-rows (contractsOf (now (self .entry)), contractOf (now (contract .entry)))) ⌝ }
+        ensures room { λ r. ⌜ made r (λ _. vec-len (now (self .entry) .contracts) < 63) ⌝ }
     {
         if self.find(contract.id.as_slice()).is_some() {
             return Err(ContractFault::Listed);
