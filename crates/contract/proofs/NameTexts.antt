@@ -4,20 +4,21 @@ use mathlib.Core.Bool.{Bool, true, false, _&&_, _||_}
 use mathlib.Core.List.{List, [], _∷_, _++_, append-assoc}
 use Prim.Native.Nat.{ℕ, _+_, _-_, _<_, _≤_}
 use native.Mathlib.Omega.{arith}
-use lib.Dec.{leb}
+use lib.Dec.{eqb, leb}
 use lib.ListN.{length, getD, set, take, drop}
 use Rattle.std.specs.Options.{isSome}
 use Rattle.std.specs.declared.option.Option.{Option}
 use Rattle.std.specs.declared.option.Option.the-variants.{Some, None}
 use Rattle.std.proofs.shelf.Lists.{at-drop-more, take-more-set, length-map, length-take-le, map-append, take-rest}
-use Rattle.std.proofs.shelf.Tests.{and-parts}
+use Rattle.std.proofs.shelf.Tests.{and-parts, and-right}
 use Rattle.std.proofs.shelf.Ways.{tells}
 use Rattle.text.specs.declared.bounded.Text.{Text}
-use Rattle.text.specs.Bytes.{Bytes, every, among, between, provided}
+use Rattle.text.specs.Bytes.{Bytes, every, among, between, pieces, provided}
 use Rattle.text.specs.Forms.{a-name, few-names}
 use Rattle.text.specs.Listings.{first-name}
 use Rattle.text.specs.Texts.{textOf, textIn, textsOf}
 use Rattle.text.proofs.Amongs.{texts-push}
+use Rattle.text.proofs.Pieces.{first-after}
 use Rattle.contract.specs.declared.held.NameList.{NameList}
 use Rattle.contract.specs.ContractList.{repeats}
 use Rattle.contract.specs.Held.{namesOf}
@@ -65,3 +66,17 @@ one-more ts count x t ns more all l e f m h =
     ∙ append-assoc (textsOf (take count ts)) (t ∷ []) (drop 1 ns)
     ∙ ap (λ k. textsOf (take count ts) ++ k) (sym f)
     ∙ h
+
+-- a line that says no name, and one that says some
+pub none-said : (ns : NameList) → leb 2 (ns .count) ≡ (leb 2 (length (namesOf ns)) && true)
+none-said ns = ap (leb 2) (sym (names-count ns)) ∙ sym (and-true (leb 2 (length (namesOf ns))))
+  where
+    and-true : (t : Bool) → (t && true) ≡ t
+    and-true true = refl
+    and-true false = refl
+
+pub some-said : (b : Bool) (t : Bytes) → false ≡ (b && eqb (length (pieces 44 t)) 0)
+some-said b t =
+    let l = ap length (first-after 44 t) in
+    let n : eqb (length (pieces 44 t)) 0 ≡ false = grind (arith, tells) in
+    sym (and-right b _ n)
