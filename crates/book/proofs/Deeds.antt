@@ -16,9 +16,11 @@ use Rattle.line.specs.Lines.{Reported}
 use Rattle.life.specs.declared.life.State.{State}
 use Rattle.life.specs.declared.life.State.the-variants.{Open, Cancelled}
 use Rattle.life.specs.Parts.{Key-parts, Life-parts}
-use Rattle.life.specs.Lives.{Lives, same-key, look, altered, erase}
+use Rattle.life.specs.Keys.{same-key}
+use Rattle.life.specs.Lives.{Lives, look, altered, erase}
 use Rattle.life.specs.Rules.{new-life, modified, cancelled}
-use Rattle.life.proofs.Lives.{key-same, key-eq, same-turned, look-erase, mapped, look-altered, look-apart}
+use Rattle.life.proofs.KeyOrder.{parts-same, parts-eq}
+use Rattle.life.proofs.Lives.{same-turned, look-erase, mapped, look-altered, look-apart}
 use Rattle.book.specs.Book.{Book, empty-book, Call, Add-entity, Add-contract, Name-file, Identify, Withdraw, Close, Judge, Look-up, Total, told-by, key-of, verdict, acted, applied, changed, after, end}
 use Rattle.book.specs.Laws.{Subject, a-line, no-line, subject, log, Deed, Did, deed, deeds, Goes-on, some-cancel, state-since, last-time, last-quantity, last-price, Tells, Life-law}
 
@@ -36,9 +38,9 @@ traced o [] = o
 traced o (Did a t q p ∷ ds) = traced (made a t q p o) ds
 
 acted-here : (a : Action) (k : Key-parts) (t q : ℕ) (p : Option ℤ) (ls : Lives) → look k (acted a k t q p ls) ≡ made a t q p (look k ls)
-acted-here New k t q p ls = rw (key-same k)
+acted-here New k t q p ls = rw (parts-same k)
 acted-here Modify k t q p ls = look-altered k _ ls
-acted-here Error k t q p ls = look-erase k k ls ∙ rw (key-same k)
+acted-here Error k t q p ls = look-erase k k ls ∙ rw (parts-same k)
 acted-here Cancel k t q p ls = look-altered k _ ls
 
 acted-apart : (a : Action) (j k : Key-parts) (t q : ℕ) (p : Option ℤ) (ls : Lives) → same-key j k ≡ false → look k (acted a j t q p ls) ≡ look k ls
@@ -52,7 +54,7 @@ applied-made : (j k : Key-parts) (r : Reported) (ls : Lives) (ds : List Deed) �
 applied-made j k r ls ds = go (same-key j k) refl
   where
     go : (y : Bool) → same-key j k ≡ y → traced (look k (applied j r ls)) ds ≡ traced (look k ls) (cond y (Did (r .action) (r .time) (r .quantity) (r .price) ∷ ds) ds)
-    go true h = ap (λ o. traced o ds) (rw (← key-eq j k h) (acted-here (r .action) j (r .time) (r .quantity) (r .price) ls))
+    go true h = ap (λ o. traced o ds) (rw (← parts-eq j k h) (acted-here (r .action) j (r .time) (r .quantity) (r .price) ls))
     go false h = ap (λ o. traced o ds) (acted-apart (r .action) j k (r .time) (r .quantity) (r .price) ls h)
 
 -- a call leaves of each life what its line makes of it
@@ -115,8 +117,8 @@ from-told : (ds : List Deed) (o : Option Life-parts) (life : Life-parts) → Tel
 from-told ds o life s =
     rw (s .parts)
     (traced-append (s .before) (Did New (s .new-time) (s .new-quantity) (s .new-price) ∷ s .since) o
-        ∙ traced-changed (s .since) (new-life (s .new-time) (s .new-quantity) (s .new-price)) (s .goes-on)
-        ∙ ap Some (rw (← s .its-state, ← s .its-time, ← s .its-quantity, ← s .its-price)))
+    ∙ traced-changed (s .since) (new-life (s .new-time) (s .new-quantity) (s .new-price)) (s .goes-on)
+    ∙ ap Some (rw (← s .its-state, ← s .its-time, ← s .its-quantity, ← s .its-price)))
 
 -- the lines went on from a life that was there
 abbrev Went-on : Option Life-parts → List Deed → Life-parts → Type 0
@@ -124,7 +126,13 @@ Went-on o ds life = (y : Life-parts) × (o ≡ Some y) × All Goes-on ds × (lif
 
 new-told : (t q : ℕ) (p : Option ℤ) (ds : List Deed) (o : Option Life-parts) (life : Life-parts) → Went-on (made New t q p o) ds life → Tells (Did New t q p ∷ ds) life
 new-told t q p ds o life w = record {
-  before = []; new-time = t; new-quantity = q; new-price = p; since = ds; parts = refl; goes-on = w .2;
+  before = [];
+  new-time = t;
+  new-quantity = q;
+  new-price = p;
+  since = ds;
+  parts = refl;
+  goes-on = w .2;
   its-state = grind (arith, w .1, w .3);
   its-time = grind (arith, w .1, w .3);
   its-quantity = grind (arith, w .1, w .3);
@@ -138,9 +146,17 @@ to-told (Did a t q p ∷ ds) o life e = go a o (to-told ds (made a t q p o) life
   where
     go : (a : Action) (o : Option Life-parts) → Tells ds life ⊎ Went-on (made a t q p o) ds life → Tells (Did a t q p ∷ ds) life ⊎ Went-on o (Did a t q p ∷ ds) life
     go a o (inl s) = inl (record {
-      before = Did a t q p ∷ s .before; new-time = s .new-time; new-quantity = s .new-quantity; new-price = s .new-price; since = s .since;
-      parts = ap (λ zs. Did a t q p ∷ zs) (s .parts); goes-on = s .goes-on;
-      its-state = s .its-state; its-time = s .its-time; its-quantity = s .its-quantity; its-price = s .its-price;
+      before = Did a t q p ∷ s .before;
+      new-time = s .new-time;
+      new-quantity = s .new-quantity;
+      new-price = s .new-price;
+      since = s .since;
+      parts = ap (λ zs. Did a t q p ∷ zs) (s .parts);
+      goes-on = s .goes-on;
+      its-state = s .its-state;
+      its-time = s .its-time;
+      its-quantity = s .its-quantity;
+      its-price = s .its-price;
     })
     go New o (inr w) = inl (new-told t q p ds o life w)
     go Modify (Some z) (inr w) = inr (z, refl, (tt, w .2), cc (w .1, w .3))
@@ -150,9 +166,10 @@ to-told (Did a t q p ∷ ds) o life e = go a o (to-told ds (made a t q p o) life
     go Error o (inr w) = absurd (grind (arith, w .1))
 
 pub life-law : Life-law
-life-law capacity calls k life =
-    (λ e. to (to-told (deeds k (log (empty-book capacity) calls)) None life (sym (run-traces calls (empty-book capacity) k) ∙ e)),
-    λ s. run-traces calls (empty-book capacity) k ∙ from-told _ None life s)
+life-law capacity calls k life = (
+  λ e. to (to-told (deeds k (log (empty-book capacity) calls)) None life (sym (run-traces calls (empty-book capacity) k) ∙ e)),
+  λ s. run-traces calls (empty-book capacity) k ∙ from-told _ None life s,
+)
   where
     to : Tells (deeds k (log (empty-book capacity) calls)) life ⊎ Went-on None (deeds k (log (empty-book capacity) calls)) life → Tells (deeds k (log (empty-book capacity) calls)) life
     to (inl s) = s

@@ -25,9 +25,10 @@ use Rattle.line.specs.Lines.{Reported}
 use Rattle.contract.specs.ContractList.{Contract, offered, Told, market-rows}
 use Rattle.filing.specs.Files.{Stage, Identified, Ended, File, named-file, at-stage, identified, judged-limit, taking-rows, one-accepted, one-refused}
 use Rattle.life.specs.Parts.{Key-parts, Life-parts}
-use Rattle.life.specs.Lives.{Lives, same-key, look, altered, erase}
+use Rattle.life.specs.Keys.{same-key}
+use Rattle.life.specs.Lives.{Lives, look, altered, erase}
 use Rattle.life.specs.Rules.{is-new, is-error, life-rows}
-use Rattle.life.proofs.Lives.{key-same, key-eq}
+use Rattle.life.proofs.KeyOrder.{parts-same, parts-eq}
 use Rattle.book.specs.Book.{Book, empty-book, with-files, with-lives, no-file, file-of, put-file, Call, Add-entity, Add-contract, Name-file, Identify, Withdraw, Close, Judge, Look-up, Total, told-by, key-of, claimed, is-full, asked, verdict, acted, applied, refused-in, done, undone, changed, after, end}
 use Rattle.book.specs.Laws.{Subject, a-line, no-line, subject, Entry, entry, log, struck, left-out, survivors, Taken, Every-line-accepted, Fewer-lines, Alike, Survivors-law}
 use Rattle.book.proofs.Tables.{none-fits, Passed, passed, passes, room-rows}
@@ -40,7 +41,7 @@ kept keep = kept-by (λ p. keep (p .0))
 
 look-kept : (keep : Key-parts → Bool) (k : Key-parts) → keep k ≡ true → (ls : Lives) → look k (kept keep ls) ≡ look k ls
 look-kept keep k h [] = refl
-look-kept keep k h (p ∷ ls) = grind (arith, look-kept keep k h ls, key-eq k (p .0))
+look-kept keep k h (p ∷ ls) = grind (arith, look-kept keep k h ls, parts-eq k (p .0))
 
 length-kept : (keep : Key-parts → Bool) (ls : Lives) → length (kept keep ls) ≤ length ls
 length-kept keep ls = omega (arith, length-kept-by-both (λ p. keep (p .0)) (λ p. not (keep (p .0))) (λ _. refl) ls)
@@ -51,7 +52,7 @@ altered-kept keep k f (p ∷ ls) = grind (arith, altered-kept keep k f ls)
 
 altered-dropped : (keep : Key-parts → Bool) (k : Key-parts) (f : Life-parts → Life-parts) → keep k ≡ false → (ls : Lives) → kept keep (altered k f ls) ≡ kept keep ls
 altered-dropped keep k f h [] = refl
-altered-dropped keep k f h (p ∷ ls) = grind (arith, altered-dropped keep k f h ls, key-eq k (p .0))
+altered-dropped keep k f h (p ∷ ls) = grind (arith, altered-dropped keep k f h ls, parts-eq k (p .0))
 
 -- what a filter that leaves a key out keeps, after and before the key is taken out
 erase-kept : (b : Key-parts → Bool) (k : Key-parts) (ls : Lives) → kept-by (λ p. not (b (p .0))) (erase k ls) ≡ kept-by (λ p. not (same-key k (p .0) || b (p .0))) ls
@@ -152,7 +153,7 @@ line-carried : (a : Action) (k : Key-parts) (t q : ℕ) (p : Option ℤ) (rest :
     acted a k t q p (kept (λ j. not (is-error a && same-key k j || struck j rest)) ls) ≡ kept (spared rest) (acted a k t q p ls)
 line-carried New k t q p rest ls h = rw h
 line-carried Modify k t q p rest ls h = altered-kept (spared rest) k _ ls
-line-carried Error k t q p rest ls h = grind (arith, key-same k)
+line-carried Error k t q p rest ls h = grind (arith, parts-same k)
 line-carried Cancel k t q p rest ls h = altered-kept (spared rest) k _ ls
 
 -- a store with no more lives has room where the other has
@@ -172,12 +173,12 @@ line-too : (n : ℕ) (bs : Bytes) (keep : Key-parts → Bool) (b b′ : Book) �
 line-too n bs keep b b′ s spare p =
     let told-too : told-by (b′ .contracts) bs ≡ told-by (b .contracts) bs = ap (λ cs. told-by cs bs) (s .contracts-too) in
     let held-too : claimed (b′ .lives) (told-by (b′ .contracts) bs) ≡ claimed (b .lives) (told-by (b .contracts) bs) =
-            ap (claimed (b′ .lives)) told-too ∙ claimed-too (b′ .lives) (b .lives) (told-by (b .contracts) bs)
-            (ap (look (key-of (told-by (b .contracts) bs))) (s .lives-kept) ∙ look-kept keep (key-of (told-by (b .contracts) bs)) spare (b .lives)) in
+    ap (claimed (b′ .lives)) told-too ∙ claimed-too (b′ .lives) (b .lives) (told-by (b .contracts) bs)
+    (ap (look (key-of (told-by (b .contracts) bs))) (s .lives-kept) ∙ look-kept keep (key-of (told-by (b .contracts) bs)) spare (b .lives)) in
     let full : is-full b′ ≡ true → is-full b ≡ true =
-            λ h. le-leb _ _ (omega (arith, leb-true _ _ h, s .as-large, length-kept keep (b .lives), ap length (s .lives-kept))) in
+    λ h. le-leb _ _ (omega (arith, leb-true _ _ h, s .as-large, length-kept keep (b .lives), ap length (s .lives-kept))) in
     let room : (is-new (told-by (b .contracts) bs .says .action) && is-full b′) ≡ false =
-            room-too (told-by (b .contracts) bs .says .action) (is-full b) (is-full b′) full (none-fits room-rows (asked b n bs) (p .has-room) .0) in
+    room-too (told-by (b .contracts) bs .says .action) (is-full b) (is-full b′) full (none-fits room-rows (asked b n bs) (p .has-room) .0) in
     record {
       takes = takes-too _ _ (like-at (b .files) (b′ .files) n (s .files-too)) (p .takes);
       reads = p .reads;
@@ -248,7 +249,7 @@ line-follows n bs cs ih b b′ None e s = go (struck k es) refl
     go false h =
         carry n bs _ _ b′ (passes b′ n bs (line-too n bs (spared es) b b′ s (rw h) (passed b n bs e)))
         (ih (done b c) (done b′ c) (taken-too (spared es) (spared rest) n _ _ b b′ ls _ s (fewer-both _ _ like)
-            (same ∙ line-carried (x .says .action) k (x .says .time) (x .says .quantity) (x .says .price) rest (b .lives) h)))
+        (same ∙ line-carried (x .says .action) k (x .says .time) (x .says .quantity) (x .says .price) rest (b .lives) h)))
 
 -- ---- The other calls: both books answer the same, and stay side by side
 
@@ -263,36 +264,59 @@ like-staged : (to : Stage) (n : ℕ) (keep : Key-parts → Bool) (b b′ : Book)
 like-staged to n keep b b′ s = like-files keep b b′ _ _ s (like-set (b .files) (b′ .files) n _ _ (fewer-staged to _ _ (like-at (b .files) (b′ .files) n (s .files-too))) (s .files-too))
 
 go-entity : (bs : Bytes) → Both-go (Add-entity bs)
-go-entity bs keep b b′ s = (rw (s .entities-too), λ v. elim v as (λ v. Shadow keep (changed b (Add-entity bs) v) (changed b′ (Add-entity bs) v)) [
-    None ↦ record { as-large = s .as-large; entities-too = ap (λ xs. xs ++ bs ∷ []) (s .entities-too); contracts-too = s .contracts-too; files-too = s .files-too; lives-kept = s .lives-kept }
-    | Some r ↦ s ])
+go-entity bs keep b b′ s = (
+  rw (s .entities-too),
+  λ v. elim v as (λ v. Shadow keep (changed b (Add-entity bs) v) (changed b′ (Add-entity bs) v)) [
+    | None ↦ record { as-large = s .as-large; entities-too = ap (λ xs. xs ++ bs ∷ []) (s .entities-too); contracts-too = s .contracts-too; files-too = s .files-too; lives-kept = s .lives-kept }
+    | Some r ↦ s
+  ],
+)
 
 go-contract : (bs : Bytes) → Both-go (Add-contract bs)
-go-contract bs keep b b′ s = (rw (s .contracts-too), λ v. elim v as (λ v. Shadow keep (changed b (Add-contract bs) v) (changed b′ (Add-contract bs) v)) [
-    None ↦ record { as-large = s .as-large; entities-too = s .entities-too; contracts-too = ap (λ xs. xs ++ offered bs ∷ []) (s .contracts-too); files-too = s .files-too; lives-kept = s .lives-kept }
-    | Some r ↦ s ])
+go-contract bs keep b b′ s = (
+  rw (s .contracts-too),
+  λ v. elim v as (λ v. Shadow keep (changed b (Add-contract bs) v) (changed b′ (Add-contract bs) v)) [
+    | None ↦ record { as-large = s .as-large; entities-too = s .entities-too; contracts-too = ap (λ xs. xs ++ offered bs ∷ []) (s .contracts-too); files-too = s .files-too; lives-kept = s .lives-kept }
+    | Some r ↦ s
+  ],
+)
 
 go-name : (bs : Bytes) → Both-go (Name-file bs)
-go-name bs keep b b′ s = (refl, λ v. elim v as (λ v. Shadow keep (changed b (Name-file bs) v) (changed b′ (Name-file bs) v)) [
-    None ↦ like-files keep b b′ _ _ s (each-push Fewer-lines (b .files) (b′ .files) _ _ (s .files-too) (same-file _))
-    | Some r ↦ s ])
+go-name bs keep b b′ s = (
+  refl,
+  λ v. elim v as (λ v. Shadow keep (changed b (Name-file bs) v) (changed b′ (Name-file bs) v)) [
+    | None ↦ like-files keep b b′ _ _ s (each-push Fewer-lines (b .files) (b′ .files) _ _ (s .files-too) (same-file _))
+    | Some r ↦ s
+  ],
+)
 
 go-identify : (n : ℕ) (bs : Bytes) → Both-go (Identify n bs)
 go-identify n bs keep b b′ s =
-    let like = like-at (b .files) (b′ .files) n (s .files-too) in
-    (rw (like .same-stage, like .same-entity, s .entities-too), λ v. elim v as (λ v. Shadow keep (changed b (Identify n bs) v) (changed b′ (Identify n bs) v)) [
-        None ↦ like-staged Identified n keep b b′ s
-        | Some r ↦ s ])
+    let like = like-at (b .files) (b′ .files) n (s .files-too) in (
+      rw (like .same-stage, like .same-entity, s .entities-too),
+      λ v. elim v as (λ v. Shadow keep (changed b (Identify n bs) v) (changed b′ (Identify n bs) v)) [
+        | None ↦ like-staged Identified n keep b b′ s
+        | Some r ↦ s
+      ],
+    )
 
 go-withdraw : (n : ℕ) → Both-go (Withdraw n)
-go-withdraw n keep b b′ s = (rw (like-at (b .files) (b′ .files) n (s .files-too) .same-stage), λ v. elim v as (λ v. Shadow keep (changed b (Withdraw n) v) (changed b′ (Withdraw n) v)) [
-    None ↦ like-staged Ended n keep b b′ s
-    | Some r ↦ s ])
+go-withdraw n keep b b′ s = (
+  rw (like-at (b .files) (b′ .files) n (s .files-too) .same-stage),
+  λ v. elim v as (λ v. Shadow keep (changed b (Withdraw n) v) (changed b′ (Withdraw n) v)) [
+    | None ↦ like-staged Ended n keep b b′ s
+    | Some r ↦ s
+  ],
+)
 
 go-close : (n : ℕ) → Both-go (Close n)
-go-close n keep b b′ s = (rw (like-at (b .files) (b′ .files) n (s .files-too) .same-stage), λ v. elim v as (λ v. Shadow keep (changed b (Close n) v) (changed b′ (Close n) v)) [
-    None ↦ like-staged Ended n keep b b′ s
-    | Some r ↦ s ])
+go-close n keep b b′ s = (
+  rw (like-at (b .files) (b′ .files) n (s .files-too) .same-stage),
+  λ v. elim v as (λ v. Shadow keep (changed b (Close n) v) (changed b′ (Close n) v)) [
+    | None ↦ like-staged Ended n keep b b′ s
+    | Some r ↦ s
+  ],
+)
 
 go-look-up : (bs : Bytes) → Both-go (Look-up bs)
 go-look-up bs keep b b′ s = (rw (s .contracts-too), λ v. elim v as (λ v. Shadow keep (changed b (Look-up bs) v) (changed b′ (Look-up bs) v)) [ None ↦ s | Some r ↦ s ])

@@ -10,10 +10,10 @@ use Rattle.std.specs.shelf.Lists.{All}
 use Rattle.text.specs.Bytes.{Bytes}
 use Rattle.text.specs.Rows.{Row, row, first-fit, looking-at}
 use Rattle.line.specs.Lines.{line-rows}
-use Rattle.contract.specs.ContractList.{Contract, offered, text-rows, listing-rows, contract-rows, market-rows}
+use Rattle.contract.specs.ContractList.{Contract, offered, text-rows, listing-rows, contract-rows, Told, market-rows}
 use Rattle.filing.specs.Files.{taking-rows}
 use Rattle.life.specs.Rules.{is-new, life-rows}
-use Rattle.book.specs.Book.{Book, Call, Judge, file-of, told-by, claimed, is-full, Asked, asked, judging-rows, verdict}
+use Rattle.book.specs.Book.{Book, Call, Judge, Look-up, file-of, told-by, claimed, is-full, Asked, asked, judging-rows, verdict}
 
 -- ---- Joined tables
 
@@ -73,16 +73,16 @@ from-line = looking-at (λ x. x .line) line-rows ++ from-list
 pub judging-parts : (b : Book) (n : ℕ) (bs : Bytes) →
     verdict b (Judge n bs)
     ≡ or-else (first-fit taking-rows (file-of (b .files) n))
-        (or-else (first-fit line-rows bs)
-            (or-else (first-fit market-rows (told-by (b .contracts) bs))
-                (or-else (first-fit life-rows (claimed (b .lives) (told-by (b .contracts) bs))) (first-fit room-rows (asked b n bs)))))
+    (or-else (first-fit line-rows bs)
+    (or-else (first-fit market-rows (told-by (b .contracts) bs))
+    (or-else (first-fit life-rows (claimed (b .lives) (told-by (b .contracts) bs))) (first-fit room-rows (asked b n bs)))))
 judging-parts b n bs =
     fit-parts (λ y. y .in-file) taking-rows from-line (asked b n bs)
     ∙ ap (or-else (first-fit taking-rows (file-of (b .files) n)))
-      (fit-parts (λ y. y .line) line-rows from-list (asked b n bs)
-      ∙ ap (or-else (first-fit line-rows bs))
-        (fit-parts (λ y. y .of-list) market-rows from-life (asked b n bs)
-        ∙ ap (or-else (first-fit market-rows (told-by (b .contracts) bs))) (fit-parts (λ y. y .of-life) life-rows room-rows (asked b n bs))))
+    (fit-parts (λ y. y .line) line-rows from-list (asked b n bs)
+    ∙ ap (or-else (first-fit line-rows bs))
+    (fit-parts (λ y. y .of-list) market-rows from-life (asked b n bs)
+    ∙ ap (or-else (first-fit market-rows (told-by (b .contracts) bs))) (fit-parts (λ y. y .of-life) life-rows room-rows (asked b n bs))))
 
 -- what an accepted line met
 pub record Passed (b : Book) (n : ℕ) (bs : Bytes) : Type 0 where
@@ -102,6 +102,13 @@ passed b n bs e =
 
 pub passes : (b : Book) (n : ℕ) (bs : Bytes) → Passed b n bs → verdict b (Judge n bs) ≡ None
 passes b n bs p = judging-parts b n bs ∙ cc (p .takes, p .reads, p .lists, p .lives-on, p .has-room)
+
+-- ---- The table of looking up
+
+pub looking-parts : (b : Book) (bs : Bytes) → verdict b (Look-up bs) ≡ or-else (first-fit line-rows bs) (first-fit market-rows (told-by (b .contracts) bs))
+looking-parts b bs =
+    fit-parts {Y = Bytes × Told} (λ x. x .0) line-rows (looking-at (λ x. x .1) market-rows) (bs, told-by (b .contracts) bs)
+    ∙ ap (or-else (first-fit line-rows bs)) (fit-looking {Y = Bytes × Told} (λ x. x .1) market-rows (bs, told-by (b .contracts) bs))
 
 -- ---- The table of adding a contract
 

@@ -22,7 +22,8 @@ use Rattle.contract.specs.ContractList.{Contract, contract-limit, numbered, num
 use Rattle.filing.specs.Entities.{entity-limit, entity-rows}
 use Rattle.filing.specs.Files.{Stage, Identified, Ended, File, named-file, at-stage, identified, judged-limit, taking-rows, one-accepted, one-refused}
 use Rattle.life.specs.Parts.{Key-parts, Life-parts}
-use Rattle.life.specs.Lives.{Pair, Lives, same-key, look, altered, erase, Unique}
+use Rattle.life.specs.Keys.{same-key}
+use Rattle.life.specs.Lives.{Pair, Lives, look, altered, erase, Unique}
 use Rattle.life.specs.Rules.{Claim, life-rows, standing, is-new, new-life, modified, cancelled}
 use Rattle.life.proofs.Lives.{unique-from, unique-erase, unique-altered, length-altered, length-erase}
 use Rattle.book.specs.Book.{Book, empty-book, with-files, with-lives, no-file, file-of, put-file, Call, Add-entity, Add-contract, Name-file, Identify, Withdraw, Close, Judge, Look-up, Total, told-by, key-of, claimed, asked, verdict, acted, refused-in, done, undone, changed, after, end}
@@ -39,7 +40,7 @@ at-most-within limit (Some n) = go (leb n limit) refl
     go true e = leb-true n limit e
     go false e = omega arith
 
-quantity-within : (t : Bytes) → value 0 (quantity-form t) ≤ 1_000_000_000_000
+pub quantity-within : (t : Bytes) → value 0 (quantity-form t) ≤ 1_000_000_000_000
 unfolding decimal-form
 quantity-within t = at-most-within 1_000_000_000_000 (decimal-of 8 (pieces 46 t))
 
@@ -49,7 +50,7 @@ numbered-within n (c ∷ cs) t =
     let ih = numbered-within (suc n) cs t in
     cond-both _ (Some (suc n, c)) (numbered (suc (suc n)) cs t) (λ o. number-of o ≤ n + suc (length cs)) (λ _. omega arith) (λ _. omega arith)
 
-contract-within : (cs : List Contract) (bs : Bytes) → length cs ≤ contract-limit → contract-number (told-by cs bs) ≤ contract-limit
+pub contract-within : (cs : List Contract) (bs : Bytes) → length cs ≤ contract-limit → contract-number (told-by cs bs) ≤ contract-limit
 contract-within cs bs h =
     let w = numbered-within 0 cs (told-by cs bs .says .contract) in
     cond-both (bilateral (told-by cs bs .says)) 0 (number-of (told-by cs bs .under)) (λ n. n ≤ contract-limit) (λ _. omega arith) (λ _. omega (arith, w, h))
@@ -153,14 +154,24 @@ acted-tidy Cancel k t q p capacity ls c w r s = record {
 module _ (capacity : ℕ) where
   files-tidy : (b : Book) (fs : List File) → Tidy capacity b → All Tidy-file fs → Tidy capacity (with-files b fs)
   files-tidy b fs s h = record {
-    as-made = s .as-made; no-key-twice = s .no-key-twice; lives-within = s .lives-within; each-life = s .each-life;
-    each-file = h; entities-within = s .entities-within; contracts-within = s .contracts-within;
+    as-made = s .as-made;
+    no-key-twice = s .no-key-twice;
+    lives-within = s .lives-within;
+    each-life = s .each-life;
+    each-file = h;
+    entities-within = s .entities-within;
+    contracts-within = s .contracts-within;
   }
 
   lives-tidy : (b : Book) (ls : Lives) → Tidy capacity b → Tidy-lives capacity ls → Tidy capacity (with-lives b ls)
   lives-tidy b ls s h = record {
-    as-made = s .as-made; no-key-twice = h .apart; lives-within = h .few; each-life = h .each;
-    each-file = s .each-file; entities-within = s .entities-within; contracts-within = s .contracts-within;
+    as-made = s .as-made;
+    no-key-twice = h .apart;
+    lives-within = h .few;
+    each-life = h .each;
+    each-file = s .each-file;
+    entities-within = s .entities-within;
+    contracts-within = s .contracts-within;
   }
 
   put-tidy : (b : Book) (n : ℕ) (f : File) → Tidy capacity b → Tidy-file f → Tidy capacity (put-file b n f)
@@ -172,9 +183,9 @@ module _ (capacity : ℕ) where
       let p = passed b n bs e in
       let x = told-by (b .contracts) bs in
       let ls = acted-tidy (x .says .action) (key-of x) (x .says .time) (x .says .quantity) (x .says .price) capacity (b .lives)
-              (contract-within (b .contracts) bs (s .contracts-within)) (quantity-within _)
-              (subst (λ m. Room (x .says .action) (key-of x) m (b .lives)) (s .as-made) (room b n bs p))
-              (record { apart = s .no-key-twice; few = s .lives-within; each = s .each-life }) in
+      (contract-within (b .contracts) bs (s .contracts-within)) (quantity-within _)
+      (subst (λ m. Room (x .says .action) (key-of x) m (b .lives)) (s .as-made) (room b n bs p))
+      (record { apart = s .no-key-twice; few = s .lives-within; each = s .each-life }) in
       put-tidy (with-lives b _) n _ (lives-tidy b _ s ls) (accepted-tidy _ (p .takes) (file-tidy (b .files) n (s .each-file)))
 
   entity-tidy : (bs : Bytes) (b : Book) (v : Option (ℕ × ℕ)) → verdict b (Add-entity bs) ≡ v → Tidy capacity b → Tidy capacity (changed b (Add-entity bs) v)
@@ -182,8 +193,13 @@ module _ (capacity : ℕ) where
   entity-tidy bs b None e s =
       let w : length (b .entities) < entity-limit = leb-false _ _ (none-fits entity-rows (b .entities, bs) e .1 .1 .0) in
       record {
-        as-made = s .as-made; no-key-twice = s .no-key-twice; lives-within = s .lives-within; each-life = s .each-life;
-        each-file = s .each-file; entities-within = simp length-append (omega (arith, w)); contracts-within = s .contracts-within;
+        as-made = s .as-made;
+        no-key-twice = s .no-key-twice;
+        lives-within = s .lives-within;
+        each-life = s .each-life;
+        each-file = s .each-file;
+        entities-within = simp length-append (omega (arith, w));
+        contracts-within = s .contracts-within;
       }
 
   contract-tidy : (bs : Bytes) (b : Book) (v : Option (ℕ × ℕ)) → verdict b (Add-contract bs) ≡ v → Tidy capacity b → Tidy capacity (changed b (Add-contract bs) v)
@@ -192,8 +208,13 @@ module _ (capacity : ℕ) where
       let none = or-none (first-fit text-rows bs) _ (sym (contract-parts (b .contracts) bs) ∙ e) .1 in
       let w : length (b .contracts) < contract-limit = leb-false _ _ (or-parts _ _ (none-fits listing-rows (b .contracts, offered bs) none .1 .1 .1 .0) .0) in
       record {
-        as-made = s .as-made; no-key-twice = s .no-key-twice; lives-within = s .lives-within; each-life = s .each-life;
-        each-file = s .each-file; entities-within = s .entities-within; contracts-within = simp length-append (omega (arith, w));
+        as-made = s .as-made;
+        no-key-twice = s .no-key-twice;
+        lives-within = s .lives-within;
+        each-life = s .each-life;
+        each-file = s .each-file;
+        entities-within = s .entities-within;
+        contracts-within = simp length-append (omega (arith, w));
       }
 
   staging-tidy : (n : ℕ) (to : Stage) (b : Book) → Tidy capacity b → Tidy capacity (put-file b n (at-stage to (file-of (b .files) n)))
@@ -224,5 +245,11 @@ pub tidy-law : Tidy-law
 tidy-law capacity calls =
     run-tidy capacity calls (empty-book capacity)
     (record {
-      as-made = refl; no-key-twice = refl; lives-within = omega arith; each-life = tt; each-file = tt; entities-within = omega arith; contracts-within = omega arith;
+      as-made = refl;
+      no-key-twice = refl;
+      lives-within = omega arith;
+      each-life = tt;
+      each-file = tt;
+      entities-within = omega arith;
+      contracts-within = omega arith;
     })

@@ -19,7 +19,8 @@ use Rattle.filing.specs.Files.{File, judged-limit}
 use Rattle.life.specs.declared.life.State.{State}
 use Rattle.life.specs.declared.life.State.the-variants.{Open, Cancelled}
 use Rattle.life.specs.Parts.{Key-parts, Life-parts}
-use Rattle.life.specs.Lives.{Pair, Lives, same-key, look, Unique}
+use Rattle.life.specs.Keys.{same-key}
+use Rattle.life.specs.Lives.{Pair, Lives, look, Unique}
 use Rattle.life.specs.Rules.{is-error, is-cancel}
 use Rattle.book.specs.Book.{Book, empty-book, Call, Add-entity, Add-contract, Name-file, Identify, Withdraw, Close, Judge, Look-up, Total, told-by, key-of, verdict, after, end}
 

@@ -1,6 +1,4 @@
 // Drives the contract list, the entity list and the reader of file names with the lines of its input, and prints what each answers.
-ghost use Prim.Native.Nat.{_<_, _≤_};
-ghost use lib.ListN.{length};
 use contract::ContractList;
 use filing::read_name;
 use filing::EntityList;
@@ -11,6 +9,7 @@ use std::alloc::Global;
 use std::fmt;
 use std::io;
 use std::io::Read;
+use text::rest_after;
 use text::span_to;
 
 // Bytes, printed as characters.
@@ -123,14 +122,6 @@ impl Lists {
     }
 }
 
-// What comes after the first line, which ends at `end`.
-fn after_line(text: &[u8], end: usize) -> &[u8]
-    requires { ⌜ end ≤ length (now text) ⌝ }
-    ensures { λ r. ⌜ (0 < length (now (text .entry)) → length (now r) < length (now (text .entry))) ⌝ }
-{
-    if end < text.len() { &text[end + 1..] } else { &text[end..] }
-}
-
 fn main(rt: LibcRuntime) -> io::Result<()> {
     let mut input = Vec::new(rt.alloc());
     rt.stdin().read_to_end(&mut input)?;
@@ -150,7 +141,7 @@ fn main(rt: LibcRuntime) -> io::Result<()> {
                 println!(rt, "{heading}")?;
             }
         }
-        rest = after_line(rest, end);
+        rest = rest_after(rest, end);
     }
     Ok(())
 }

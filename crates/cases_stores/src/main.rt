@@ -1,5 +1,6 @@
 // Drives both stores with one list of steps and prints what each answers.
 mod steps;
+
 use chained::Chained;
 use chained::ChainedStore;
 use chained::Slot;
@@ -41,7 +42,14 @@ impl fmt::Display for Said as SaidDisplay {
 }
 
 fn key_of(name: &Name) -> Option<Key> {
-    Key::new(name.kind, name.id.as_bytes(), name.contract, b"XBIL", b"A0000000A.EU", name.side)
+    Key::new(
+        name.kind,
+        name.id.as_bytes(),
+        name.contract,
+        b"XBIL",
+        b"A0000000A.EU",
+        name.side,
+    )
 }
 
 // The step's answer. A life that is put has the number of its step as its time.
@@ -118,13 +126,25 @@ fn lengths(rt: LibcRuntime) -> io::Result<()> {
 
 fn main(rt: LibcRuntime) -> io::Result<()> {
     lengths(rt)?;
-    let Some(key) = Key::new(text::Kind::Order, b"x", 0, b"XBIL", b"A0000000A.EU", text::Side::Buy) else {
+    let Some(key) = Key::new(
+        text::Kind::Order,
+        b"x",
+        0,
+        b"XBIL",
+        b"A0000000A.EU",
+        text::Side::Buy,
+    ) else {
         return Ok(());
     };
     let Some(life) = Life::new(0, 0, None) else {
         return Ok(());
     };
-    let slot = Slot { head: 7, next: 9, key, life };
+    let slot = Slot {
+        head: 7,
+        next: 9,
+        key,
+        life,
+    };
     let entry = Entry { key, life };
     without_room(rt, slot, entry)?;
     let mut slots = [slot; 6];

@@ -47,16 +47,75 @@ pub impl fmt::Display for Step as StepDisplay {
     }
 }
 
-const A1: Name = Name { kind: Kind::Trade, id: "a", contract: 1, side: Side::Buy };
-const A2: Name = Name { kind: Kind::Trade, id: "a", contract: 2, side: Side::Buy };
-const A3: Name = Name { kind: Kind::Trade, id: "a", contract: 3, side: Side::Buy };
-const A3_SOLD: Name = Name { kind: Kind::Trade, id: "a", contract: 3, side: Side::Sell };
-const A3_ORDER: Name = Name { kind: Kind::Order, id: "a", contract: 3, side: Side::Buy };
-const NONE: Name = Name { kind: Kind::Trade, id: "", contract: 1, side: Side::Buy };
-const AB: Name = Name { kind: Kind::Trade, id: "ab", contract: 1, side: Side::Buy };
-const ABC: Name = Name { kind: Kind::Trade, id: "abc", contract: 1, side: Side::Buy };
-const B: Name = Name { kind: Kind::Trade, id: "b", contract: 63, side: Side::Sell };
-const C: Name = Name { kind: Kind::Order, id: "c", contract: 0, side: Side::Sell };
+const A1: Name = Name {
+    kind: Kind::Trade,
+    id: "a",
+    contract: 1,
+    side: Side::Buy,
+};
+
+const A2: Name = Name {
+    kind: Kind::Trade,
+    id: "a",
+    contract: 2,
+    side: Side::Buy,
+};
+
+const A3: Name = Name {
+    kind: Kind::Trade,
+    id: "a",
+    contract: 3,
+    side: Side::Buy,
+};
+
+const A3_SOLD: Name = Name {
+    kind: Kind::Trade,
+    id: "a",
+    contract: 3,
+    side: Side::Sell,
+};
+
+const A3_ORDER: Name = Name {
+    kind: Kind::Order,
+    id: "a",
+    contract: 3,
+    side: Side::Buy,
+};
+
+const NONE: Name = Name {
+    kind: Kind::Trade,
+    id: "",
+    contract: 1,
+    side: Side::Buy,
+};
+
+const AB: Name = Name {
+    kind: Kind::Trade,
+    id: "ab",
+    contract: 1,
+    side: Side::Buy,
+};
+
+const ABC: Name = Name {
+    kind: Kind::Trade,
+    id: "abc",
+    contract: 1,
+    side: Side::Buy,
+};
+
+const B: Name = Name {
+    kind: Kind::Trade,
+    id: "b",
+    contract: 63,
+    side: Side::Sell,
+};
+
+const C: Name = Name {
+    kind: Kind::Order,
+    id: "c",
+    contract: 0,
+    side: Side::Sell,
+};
 
 pub static STEPS: [Step; 96] = [
     // nothing is held yet

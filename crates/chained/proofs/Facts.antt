@@ -1,26 +1,24 @@
 -- What the table's invariant says of the pairs: lemmas for the ghost members of a store.
 use mathlib.Core.Path.{_≡_, refl, sym, ap, subst, _∙_}
-use mathlib.Core.Logic.{_⊎_, inl, inr, ⊎-elim, ∥∥₁-elim}
-use mathlib.Core.Bool.{Bool, true, false, cond, _&&_}
-use mathlib.Core.List.{List, [], _∷_}
+use mathlib.Core.Logic.{_⊎_, ⊎-elim, ∥∥₁-elim}
+use mathlib.Core.Bool.{true, cond}
+use mathlib.Core.List.{List, []}
 use std.HLevel.{Π-prop, ⊥-prop}
 use native.Mathlib.Bridge.{le-prop}
-use Prim.Native.Nat.{ℕ, zero, suc, _+_, _-_, _≤_, _<_}
+use Prim.Native.Nat.{ℕ, zero, suc, _-_, _≤_, _<_}
 use native.Mathlib.Omega.{arith}
 use base.Stored.{coded-set, codedℕ}
-use lib.Dec.{eqb, leb}
-use lib.ListN.{length, getD}
-use Rattle.std.proofs.shelf.Tests.{cases-order, cases-eq, eqb-true, eq-eqb, and-parts, and-from, both-ways, cases-bool, cases-lt, le-leb, lt-leb, cond-true, cond-false}
+use lib.Dec.{leb}
+use lib.ListN.{length}
+use Rattle.std.proofs.shelf.Tests.{cases-bool, cases-lt, le-leb, lt-leb, cond-true, cond-false}
 use Rattle.life.specs.declared.key.Key.{Key}
-use Rattle.life.specs.declared.life.Life.{Life}
 use Rattle.chained.specs.declared.slot.Slot.{Slot}
-use Rattle.std.specs.declared.option.Option.{Option}
-use Rattle.std.specs.declared.option.Option.the-variants.{Some, None}
+use Rattle.std.specs.declared.option.Option.the-variants.{None}
 use Rattle.life.specs.Keys.{alike as same}
 use Rattle.life.specs.Pairs.{look as lookup, Unique}
 use Rattle.life.proofs.KeyOrder.{key-eq, key-same}
 use Rattle.life.proofs.Lookups.{unique-from}
-use Rattle.chained.specs.Table.{at, chain-of, chain-at, pairs-of, room-of, Prev, Linked, Sound, Whole, Emptied}
+use Rattle.chained.specs.Table.{at, pairs-of, room-of, Prev, Linked, Sound, Whole, Held, Emptied}
 
 -- the invariant holds in one way, so it comes out of the ghost field
 prev-prop : {K : ℕ → ℕ} {b top r : ℕ} → IsProp (Prev K b top r)
@@ -64,9 +62,9 @@ pub lookup-none : (s : List Slot) (k : Key) (c : ℕ) → ((m : ℕ) → 0 < m �
 lookup-none s k zero h = refl
 lookup-none s k (suc c) h =
     ⊎-elim
-      (λ e. absurd (h (suc c) (omega arith) (omega arith) (sym (same-true _ _ e))))
-      (λ e. rw e (lookup-none s k c (λ m p q. h m p (omega arith))))
-      (cases-bool (same k (at s (suc c) .key)))
+    (λ e. absurd (h (suc c) (omega arith) (omega arith) (sym (same-true _ _ e))))
+    (λ e. rw e (lookup-none s k c (λ m p q. h m p (omega arith))))
+    (cases-bool (same k (at s (suc c) .key)))
 
 pub pairs-length : (s : List Slot) (c : ℕ) → length (pairs-of s c) ≡ c
 pairs-length s zero = refl
@@ -76,7 +74,7 @@ pub pairs-unique : (s : List Slot) (c : ℕ) → ((i j : ℕ) → 0 < i → i < 
 pairs-unique s zero apart = refl
 pairs-unique s (suc c) apart =
     unique-from (at s (suc c) .key, at s (suc c) .life) (pairs-of s c)
-      (lookup-none s _ c (λ m z h e. apart m (suc c) z (omega arith) (omega arith) e)) (pairs-unique s c (λ i j z l h. apart i j z l (omega arith)))
+    (lookup-none s _ c (λ m z h e. apart m (suc c) z (omega arith) (omega arith) e)) (pairs-unique s c (λ i j z l h. apart i j z l (omega arith)))
 
 -- ---- what the ghost fields of a store say
 
@@ -98,34 +96,45 @@ room-to s t e = ap (λ n. cond (leb n 65536) (n - 1) 0) e
 pub whole-unique : (s : List Slot) (c : ℕ) → Whole s c → Unique (pairs-of s c)
 whole-unique s c h =
     ⊎-elim
-      (λ l. subst Unique (sym (large-none s c h l)) refl)
-      (λ l. pairs-unique s c (h .allowed l .apart))
-      (cases-lt 65536 (length s))
+    (λ l. subst Unique (sym (large-none s c h l)) refl)
+    (λ l. pairs-unique s c (h .allowed l .apart))
+    (cases-lt 65536 (length s))
 
 pub whole-fits : (s : List Slot) (c : ℕ) → Whole s c → length (pairs-of s c) ≤ room-of s
 whole-fits s c h =
     ⊎-elim
-      (λ l. omega (arith, pairs-length s c, h .large l))
-      (λ l. omega (arith, pairs-length s c, room-small s l, h .allowed l .fits))
-      (cases-lt 65536 (length s))
+    (λ l. omega (arith, pairs-length s c, h .large l))
+    (λ l. omega (arith, pairs-length s c, room-small s l, h .allowed l .fits))
+    (cases-lt 65536 (length s))
 
 -- a table without chains has no slot in use
 pub emptied-whole : (s t : List Slot) → Emptied s t → Whole t 0
 emptied-whole s t e = record {
   allowed = λ l.
-    let w = e .small (omega (arith, e .size)) in
-    record {
-      fits = omega arith;
-      small = l;
-      linked = record {
-        nexts = λ j z h. absurd (omega arith);
-        heads = λ b z h. record {
-          below = omega (arith, w .heads b);
-          hit = λ p. absurd (omega (arith, w .heads b));
-          gap = λ m p q. absurd (omega (arith, w .heads b));
+      let w = e .small (omega (arith, e .size)) in
+      record {
+        fits = omega arith;
+        small = l;
+        linked = record {
+          nexts = λ j z h. absurd (omega arith);
+          heads = λ b z h. record {
+            below = omega (arith, w .heads b);
+            hit = λ p. absurd (omega (arith, w .heads b));
+            gap = λ m p q. absurd (omega (arith, w .heads b));
+          };
         };
+        apart = λ i j z l h. absurd (omega arith);
       };
-      apart = λ i j z l h. absurd (omega arith);
-    };
   large = λ l. refl;
 }
+
+pub held : {s : List Slot} {c : ℕ} → Whole s c → Held s c
+held {s} {c} h = record { in-chains = ∣ h ∣₁; apart = whole-unique s c h; within = whole-fits s c h }
+
+-- a table with a slot in use has a length that is allowed
+pub sound-in : (s : List Slot) (c : ℕ) → Whole s c → 0 < c → Sound s c
+sound-in s c h l = ⊎-elim (λ z. absurd (omega (arith, h .large z))) (λ z. h .allowed z) (cases-lt 65536 (length s))
+
+-- and so has one with a slot that is free
+pub sound-with : (s : List Slot) (c : ℕ) → Whole s c → c < room-of s → Sound s c
+sound-with s c h l = ⊎-elim (λ z. absurd (omega (arith, room-large s z))) (λ z. h .allowed z) (cases-lt 65536 (length s))

@@ -2,7 +2,7 @@
 use mathlib.Core.Path.{_≡_}
 use mathlib.Core.Bool.{Bool, true, false, cond}
 use mathlib.Core.List.{List, [], _∷_}
-use Prim.Native.Nat.{ℕ, zero, suc, _+_, _-_, _*_, _%_, _≤_, _<_}
+use Prim.Native.Nat.{ℕ, zero, suc, _+_, _-_, _%_, _≤_, _<_}
 use lib.Dec.{eqb, leb}
 use lib.ListN.{length, getD}
 use Rattle.std.specs.Results.{isOk}
@@ -14,7 +14,7 @@ use Rattle.text.specs.Bytes.{between}
 use Rattle.text.specs.Texts.{textOf}
 use Rattle.life.specs.Fnv.{word-of}
 use Rattle.life.specs.Blank.{no-key, no-life}
-use Rattle.life.specs.Pairs.{look, erase, added, admits, Same}
+use Rattle.life.specs.Pairs.{look, erase, added, admits, distinct, Same}
 use Rattle.life.specs.declared.key.Key.{Key}
 use Rattle.life.specs.declared.life.Life.{Life}
 use Rattle.chained.specs.declared.slot.Slot.{Slot}
@@ -149,15 +149,23 @@ pub record Emptied (s t : List Slot) : Type 0 where
   pub small : length s ≤ 65536 → Wiped s t
   pub large : 65536 < length s → t ≡ s
 
+-- what holds of a store's table: it is sound, no key stands twice, and no more are held than can be
+pub record Held (s : List Slot) (c : ℕ) : Type 0 where
+  pub in-chains : ∥ Whole s c ∥₁
+  pub apart : distinct (pairs-of s c) ≡ true
+  pub within : length (pairs-of s c) ≤ room-of s
+
 -- what `put` does
 pub record Puts (s : List Slot) (c : ℕ) (t : List Slot) (d : ℕ) (k : Key) (l : Life) (r : Result (Unit {0}) NoRoom) : Type 0 where
-  pub sound : Sound t d
-  pub fits : isOk r ≡ admits (length s - 1) k (pairs-of s c)
+  pub held : Held t d
+  pub room : room-of t ≡ room-of s
+  pub fits : isOk r ≡ admits (room-of s) k (pairs-of s c)
   pub holds : Same (pairs-of t d) (added (isOk r) k l (pairs-of s c))
   pub leaves : Leaves s c t d (isOk r ≡ false)
 
 -- what `remove` does
 pub record Drops (s : List Slot) (c : ℕ) (t : List Slot) (d : ℕ) (k : Key) : Type 0 where
-  pub sound : Sound t d
+  pub held : Held t d
+  pub room : room-of t ≡ room-of s
   pub holds : Same (pairs-of t d) (erase k (pairs-of s c))
-  pub leaves : Leaves s c t d (length s - 1 ≡ 0)
+  pub leaves : Leaves s c t d (room-of s ≡ 0)

@@ -13,7 +13,6 @@ ghost use Rattle.chained.specs.Table.{«allowed-length» as allowed, «room-of
 use crate::slot::Slot;
 use crate::table::MOST;
 use crate::table::Table;
-use crate::table::prepare;
 use life::Key;
 use life::Life;
 use life::NoRoom;
@@ -44,8 +43,8 @@ impl<'t> Chained<'t> {
         ensures none { λ r. ⌜ pairs-in (now (r .table .slots)) (r .table .count) ≡ [] ⌝ }
         ensures table { λ r. ⌜ Emptied (now (slots .entry)) (now (r .table .slots)) ⌝ }
     {
-        prepare(slots);
-        let table = Table { slots, count: 0 };
+        let mut table = Table { slots, count: 0 };
+        table.empty();
         Chained { table }
     }
 }
@@ -64,9 +63,6 @@ pub impl<'t> Store for Chained<'t> as ChainedStore {
     }
 
     fn find(&self, key: &Key) -> Option<Life> {
-        if self.table.large() {
-            return None;
-        }
         self.table.find(key)
     }
 
@@ -76,9 +72,6 @@ pub impl<'t> Store for Chained<'t> as ChainedStore {
         ensures keeps { λ _. ⌜ room-in (now (now (self .exit) .table .slots)) ≡ room-in (now (now (self .entry) .table .slots)) ⌝ }
         ensures table { λ r. ⌜ Leaves (now (now (self .entry) .table .slots)) (now (self .entry) .table .count) (now (now (self .exit) .table .slots)) (now (self .exit) .table .count) (isOk r ≡ false) ⌝ }
     {
-        if self.table.large() {
-            return Err(NoRoom);
-        }
         self.table.put(key, life)
     }
 
@@ -87,9 +80,6 @@ pub impl<'t> Store for Chained<'t> as ChainedStore {
         ensures keeps { λ _. ⌜ room-in (now (now (self .exit) .table .slots)) ≡ room-in (now (now (self .entry) .table .slots)) ⌝ }
         ensures table { λ _. ⌜ Leaves (now (now (self .entry) .table .slots)) (now (self .entry) .table .count) (now (now (self .exit) .table .slots)) (now (self .exit) .table .count) (room-in (now (now (self .entry) .table .slots)) ≡ 0) ⌝ }
     {
-        if self.table.large() {
-            return;
-        }
         self.table.remove(key)
     }
 

@@ -2,6 +2,7 @@
 mod chained;
 mod slot;
 mod table;
+
 pub use chained::Chained;
 pub use chained::ChainedStore;
 pub use slot::Slot;

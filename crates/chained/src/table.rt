@@ -1,14 +1,14 @@
 // A table of slots: which slot has a key, and how a pair comes into its chain and out of it.
 ghost use mathlib.Core.Path.{_≡_};
 ghost use Prim.Native.Nat.{ℕ, _+_, _-_, _*_, _<_, _≤_};
-ghost use lib.Dec.{ltb};
+ghost use lib.Dec.{leb, ltb};
 ghost use lib.ListN.{length, getD, set};
 ghost use Rattle.std.specs.declared.option.Option.the-variants.{Some, None};
 ghost use Rattle.life.specs.Keys.{alike};
 ghost use Rattle.life.specs.Pairs.{look};
 ghost use mathlib.Core.List.{_∷_};
-ghost use Rattle.chained.specs.Table.{«room-of» as room-in, Becomes, at, chain-of, pairs-of, re, Linked, Chains, Sound, Sought, Place, Rewired, Paired, Kept, Spare, Wiped, Emptied, Puts, Drops};
-ghost use mathlib.Core.Bool.{true, false};
+ghost use Rattle.chained.specs.Table.{«room-of» as room-in, Becomes, at, chain-of, pairs-of, re, Linked, Chains, Sound, Sought, Place, Rewired, Paired, Kept, Whole, Held, Spare, Wiped, Emptied, Puts, Drops};
+ghost use mathlib.Core.Bool.{true, false, not, _&&_};
 use crate::slot::Slot;
 use life::Key;
 use life::Life;
@@ -63,7 +63,15 @@ fn has_key(slots: &[Slot], i: usize, key: &Key) -> bool
     slots[i].key.same(key)
 }
 
-// The place of a key, or 0.
+// Whether the search for a key goes on past the slot `j`: there is one, and it has another key.
+fn goes_on(slots: &[Slot], j: usize, key: &Key) -> bool
+    requires { ⌜ j < length (now slots) ⌝ }
+    ensures { λ r. ⌜ r ≡ (ltb 0 j && not (alike (at (now (slots .entry)) j .key) (now (key .entry)))) ⌝ }
+{
+    j > 0 && !has_key(slots, j, key)
+}
+
+// The place of a key, or 0. Zero ends a chain.
 fn seek(slots: &[Slot], count: usize, key: &Key) -> usize
     requires { ⌜ Sound (now slots) count ⌝ }
     ensures { λ r. ⌜ Sought (now (slots .entry)) count (now (key .entry)) r ⌝ }
@@ -74,13 +82,10 @@ fn seek(slots: &[Slot], count: usize, key: &Key) -> usize
     }
     let b = chain(key, n);
     let mut j = head_of(slots, b);
-    while j > 0 {
-        if has_key(slots, j, key) {
-            return j;
-        }
+    while goes_on(slots, j, key) {
         j = next_of(slots, j);
     }
-    0
+    j
 }
 
 // Sets the link at `p`, or the head of the chain `b` where `p` is 0.
@@ -102,7 +107,12 @@ fn set_pair(slots: &mut [Slot], i: usize, key: Key, life: Life)
 {
     let head = slots[i].head;
     let next = slots[i].next;
-    slots[i] = Slot { head, next, key, life };
+    slots[i] = Slot {
+        head,
+        next,
+        key,
+        life,
+    };
 }
 
 // Takes the slot after the last one in use for a new key.
@@ -215,7 +225,7 @@ fn wipe(slots: &mut [Slot])
 }
 
 // Ends every chain, unless there are too many slots.
-pub(crate) fn prepare(slots: &mut [Slot])
+fn prepare(slots: &mut [Slot])
     ensures { λ _. ⌜ Emptied (now (slots .entry)) (now (slots .exit)) ⌝ }
 {
     if slots.len() > MOST {
@@ -233,7 +243,7 @@ pub(crate) struct Table<'t> {
 
 impl<'t> Table<'t> {
     // Whether it has too many slots.
-    pub(crate) fn large(&self) -> bool
+    fn large(&self) -> bool
         ensures { λ r. ⌜ r ≡ ltb 65536 (length (now (now (self .entry) .slots))) ⌝ }
     {
         self.slots.len() > MOST
@@ -249,15 +259,25 @@ impl<'t> Table<'t> {
 
     // The slot of the key, or 0.
     fn place_of(&self, key: &Key) -> usize
-        requires { ⌜ Sound (now (now self .slots)) (now self .count) ⌝ }
+        requires { ⌜ ∥ Whole (now (now self .slots)) (now self .count) ∥₁ ⌝ }
         ensures { λ r. ⌜ Sought (now (now (self .entry) .slots)) (now (self .entry) .count) (now (key .entry)) r ⌝ }
     {
+        if self.large() {
+            return 0;
+        }
         seek(self.slots, self.count, key)
+    }
+
+    // Whether no slot is free.
+    fn is_full(&self) -> bool
+        ensures { λ r. ⌜ r ≡ leb (room-in (now (now (self .entry) .slots))) (now (self .entry) .count) ⌝ }
+    {
+        self.count >= self.room()
     }
 
     // The life at the key, if one is held.
     pub(crate) fn find(&self, key: &Key) -> Option<Life>
-        requires { ⌜ Sound (now (now self .slots)) (now self .count) ⌝ }
+        requires { ⌜ ∥ Whole (now (now self .slots)) (now self .count) ∥₁ ⌝ }
         ensures { λ r. ⌜ r ≡ look (now (key .entry)) (pairs-of (now (now (self .entry) .slots)) (now (self .entry) .count)) ⌝ }
     {
         let i = self.place_of(key);
@@ -269,7 +289,7 @@ impl<'t> Table<'t> {
 
     // Puts the life at the key. Refused where the key is new and the table is full.
     pub(crate) fn put(&mut self, key: &Key, life: Life) -> Result<(), NoRoom>
-        requires { ⌜ Sound (now (now self .slots)) (now self .count) ⌝ }
+        requires { ⌜ ∥ Whole (now (now self .slots)) (now self .count) ∥₁ ⌝ }
         ensures { λ r. ⌜ Puts (now (now (self .entry) .slots)) (now (self .entry) .count) (now (now (self .exit) .slots)) (now (self .exit) .count) (now (key .entry)) life r ⌝ }
     {
         let count = self.count;
@@ -278,7 +298,7 @@ impl<'t> Table<'t> {
             set_pair(self.slots, i, *key, life);
             return Ok(());
         }
-        if count + 1 >= self.slots.len() {
+        if self.is_full() {
             return Err(NoRoom);
         }
         add(self.slots, count, key, life);
@@ -288,7 +308,7 @@ impl<'t> Table<'t> {
 
     // Takes away the pair at the key, if there is one.
     pub(crate) fn remove(&mut self, key: &Key)
-        requires { ⌜ Sound (now (now self .slots)) (now self .count) ⌝ }
+        requires { ⌜ ∥ Whole (now (now self .slots)) (now self .count) ∥₁ ⌝ }
         ensures { λ _. ⌜ Drops (now (now (self .entry) .slots)) (now (self .entry) .count) (now (now (self .exit) .slots)) (now (self .exit) .count) (now (key .entry)) ⌝ }
     {
         let count = self.count;
@@ -302,6 +322,8 @@ impl<'t> Table<'t> {
     // Takes every pair away. A table with too many slots is left alone.
     pub(crate) fn empty(&mut self)
         ensures count { λ _. ⌜ now (self .exit) .count ≡ 0 ⌝ }
+        ensures held { λ _. ⌜ Held (now (now (self .exit) .slots)) (now (self .exit) .count) ⌝ }
+        ensures room { λ _. ⌜ room-in (now (now (self .exit) .slots)) ≡ room-in (now (now (self .entry) .slots)) ⌝ }
         ensures table { λ _. ⌜ Emptied (now (now (self .entry) .slots)) (now (now (self .exit) .slots)) ⌝ }
     {
         prepare(self.slots);

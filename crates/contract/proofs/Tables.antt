@@ -15,15 +15,15 @@ use Rattle.std.specs.declared.result.Result.{Result}
 use Rattle.std.specs.declared.result.Result.the-variants.{Ok, Err}
 use Rattle.std.specs.shelf.Text.{sameBytes}
 use Rattle.std.proofs.shelf.Results.{err-from-errBy}
-use Rattle.text.specs.Bytes.{Bytes, every, among}
-use Rattle.text.specs.Rows.{first-fit, looking-at, Refusal, refusal, settled-by}
+use Rattle.text.specs.Bytes.{Bytes, every, among, start}
+use Rattle.text.specs.Rows.{first-fit, looking-at, fields, Refused, settled-by}
 use Rattle.text.specs.Texts.{textOf}
-use Rattle.text.proofs.FirstFits.{or-else, fit-parts, fit-looking}
+use Rattle.text.proofs.Tables.{or-else, fit-append, fit-looking, none-fitted, one-fitted}
 use Rattle.line.specs.Lines.{Reported}
 use Rattle.contract.specs.declared.faults.ContractFault.{ContractFault}
 use Rattle.contract.specs.declared.held.HeldContract.{HeldContract}
 use Rattle.contract.specs.ContractList.{Contract, listed, needs-style, repeats, names-in, text-rows, listing-rows, contract-rows, offered, adding, added, told, number-of, names-of, due, settled-plainly}
-use Rattle.contract.specs.Faults.{contract-refusal}
+use Rattle.contract.specs.Faults.{contract-fault-number, contract-fault-field, contract-fault-offset, contract-refusal}
 use Rattle.contract.specs.Held.{contractOf, namesOf, addedIn}
 use Rattle.contract.specs.Styles.{styleOf}
 use Rattle.contract.proofs.NameTexts.{names-count}
@@ -44,51 +44,47 @@ checked cs c known plain twice full k p t f =
 
 -- ---- Adding a contract
 
--- what a value or a refusal says of the row that was found
-pub ok-none : {V : Type 0} (bs : Bytes) (v x : V) (o : Option (ℕ × ℕ)) → Ok x ≡ settled-by bs v o → (o ≡ None) × (x ≡ v)
-ok-none bs v x None e = (refl, cc)
-ok-none bs v x (Some r) e = absurd (let z : _≡_ {A = ℕ} 0 1 = cc in omega arith)
-
-pub err-some : {V : Type 0} (bs : Bytes) (v : V) (x : Refusal) (o : Option (ℕ × ℕ)) → Err x ≡ settled-by bs v o → (r : ℕ × ℕ) × (o ≡ Some r) × (x ≡ refusal bs r)
-err-some bs v x None e = absurd (let z : _≡_ {A = ℕ} 0 1 = cc in omega arith)
-err-some bs v x (Some r) e = (r, refl, cc)
-
 module _ (cs : List Contract) (bs : Bytes) where
   both-tables : first-fit contract-rows (cs, bs) ≡ or-else (first-fit text-rows bs) (first-fit listing-rows (cs, offered bs))
   both-tables =
-      fit-parts (λ (x : List Contract × Bytes). x .1) text-rows (looking-at (λ x. (x .0, offered (x .1))) listing-rows) (cs, bs)
-      ∙ ap (or-else (first-fit text-rows bs)) (fit-looking (λ (x : List Contract × Bytes). (x .0, offered (x .1))) listing-rows (cs, bs))
+      fit-append (looking-at (λ x. x .1) text-rows) (looking-at (λ x. (x .0, offered (x .1))) listing-rows) (cs, bs)
+      ∙ (λ i. or-else
+          (fit-looking (λ (x : List Contract × Bytes). x .1) text-rows (cs, bs) i)
+          (fit-looking (λ (x : List Contract × Bytes). (x .0, offered (x .1))) listing-rows (cs, bs) i))
 
   -- the answer of adding, and the list then
   abbrev Answers : Result ℕ ContractFault → List Contract → Type 0
   Answers r left = (addedIn r ≡ adding cs bs) × (left ≡ added cs bs)
 
-  refused : (r : Result ℕ ContractFault) (x : ContractFault) (row : ℕ × ℕ) → ErrBy r (λ y. y ≡ x) → contract-refusal x ≡ refusal bs row → first-fit contract-rows (cs, bs) ≡ Some row → Answers r cs
-  refused r x row b e f =
-      let q = err-from-errBy r b in
-      (ap addedIn (q .1) ∙ ap (λ y. Err (contract-refusal y)) (q .2) ∙ ap Err e ∙ sym (ap (settled-by bs (suc (length cs))) f),
-      sym (ap (λ o. cond (isSome o) cs (cs ++ offered bs ∷ [])) f))
+  module _ {V : Type 0} (r : Result ℕ ContractFault) (x : ContractFault) (v : V) (o : Option (ℕ × ℕ)) (b : ErrBy r (λ y. y ≡ x)) (e : Err (contract-refusal x) ≡ settled-by bs v o) where
+    found : (o ≡ Some (contract-fault-number x, contract-fault-field x)) × (contract-fault-offset x ≡ start (contract-fault-field x) (fields bs))
+    found = one-fitted bs v (contract-fault-number x) (contract-fault-field x) (contract-fault-offset x) o e
+
+    refused : first-fit contract-rows (cs, bs) ≡ o → Answers r cs
+    refused f =
+        let q = err-from-errBy r b in
+        let g = f ∙ found .0 in
+        (ap addedIn (q .1) ∙ ap (λ y. Err (contract-refusal y)) (q .2) ∙ ap (λ at. Err (Refused (contract-fault-number x) (contract-fault-field x) at)) (found .1) ∙ sym (ap (settled-by bs (suc (length cs))) g),
+        sym (ap (λ o. cond (isSome o) cs (cs ++ offered bs ∷ [])) g))
 
   pub by-text : (r : Result ℕ ContractFault) (x : ContractFault) → ErrBy r (λ y. y ≡ x) → Err (contract-refusal x) ≡ settled-by bs (offered bs) (first-fit text-rows bs) → Answers r cs
   by-text r x b e =
-      let s = err-some bs (offered bs) (contract-refusal x) (first-fit text-rows bs) e in
-      refused r x (s .0) b (s .2) (both-tables ∙ ap (λ o. or-else o (first-fit listing-rows (cs, offered bs))) (s .1))
+      let s = found r x (offered bs) (first-fit text-rows bs) b e in
+      refused r x (offered bs) (first-fit text-rows bs) b e (both-tables ∙ ap (λ o. or-else o (first-fit listing-rows (cs, offered bs))) (s .0) ∙ sym (s .0))
 
   module _ (c : HeldContract) (e : Ok (contractOf c) ≡ settled-by bs (offered bs) (first-fit text-rows bs)) where
     read-so : (first-fit text-rows bs ≡ None) × (contractOf c ≡ offered bs)
-    read-so = ok-none bs (offered bs) (contractOf c) (first-fit text-rows bs) e
+    read-so = none-fitted bs (offered bs) (contractOf c) (first-fit text-rows bs) e
 
     listing-only : first-fit contract-rows (cs, bs) ≡ first-fit listing-rows (cs, contractOf c)
     listing-only = both-tables ∙ (λ i. or-else (read-so .0 i) (first-fit listing-rows (cs, sym (read-so .1) i)))
 
     pub by-list : (r : Result ℕ ContractFault) (x : ContractFault) → ErrBy r (λ y. y ≡ x) → Err (contract-refusal x) ≡ settled-by {V = Unit {0}} bs tt (first-fit listing-rows (cs, contractOf c)) → Answers r cs
-    by-list r x b f =
-        let s = err-some {V = Unit {0}} bs tt (contract-refusal x) (first-fit listing-rows (cs, contractOf c)) f in
-        refused r x (s .0) b (s .2) (listing-only ∙ s .1)
+    by-list r x b f = refused {V = Unit {0}} r x tt (first-fit listing-rows (cs, contractOf c)) b f listing-only
 
     pub by-none : (n : ℕ) (left : List Contract) → n ≡ suc (length cs) → left ≡ cs ++ contractOf c ∷ [] → Ok (tt {0}) ≡ settled-by {V = Unit {0}} bs tt (first-fit listing-rows (cs, contractOf c)) → Answers (Ok n) left
     by-none n left l m f =
-        let none = listing-only ∙ ok-none {V = Unit {0}} bs tt tt (first-fit listing-rows (cs, contractOf c)) f .0 in
+        let none = listing-only ∙ none-fitted {V = Unit {0}} bs tt tt (first-fit listing-rows (cs, contractOf c)) f .0 in
         (ap Ok l ∙ sym (ap (settled-by bs (suc (length cs))) none),
         m ∙ ap (λ x. cs ++ x ∷ []) (read-so .1) ∙ sym (ap (λ o. cond (isSome o) cs (cs ++ offered bs ∷ [])) none))
 

@@ -1,5 +1,5 @@
 -- The order of keys is strict and total, and a key is its parts.
-use mathlib.Core.Path.{_≡_, refl, sym, ap, subst, _∙_}
+use mathlib.Core.Path.{_≡_, refl, sym, ap, _∙_}
 use mathlib.Core.HLevel.{isProp→PathP}
 use mathlib.Core.Logic.{_⊎_, inl, inr, ⊎-elim}
 use mathlib.Core.List.{List, [], _∷_}
@@ -72,7 +72,7 @@ parts-from-list a b p = λ i. record {
 
 -- the library's order of lists is this one
 as-lex : {X : Type 0} {R : X → X → Ordering → Type 0} (o : Total R) (f : X → X → Ordering) → ((x y : X) → f x y ≡ o .cmp x y)
-  → (xs ys : List X) → lexical f xs ys ≡ lex o xs ys
+    → (xs ys : List X) → lexical f xs ys ≡ lex o xs ys
 as-lex o f h [] [] = refl
 as-lex o f h [] (y ∷ ys) = refl
 as-lex o f h (x ∷ xs) [] = refl
@@ -117,7 +117,7 @@ compare-equal : (a b : Key) → rank a b ≡ Equal → a ≡ b
 unfolding rank key-order
 compare-equal a b e =
     key-from a b (parts-from-list (key-parts a) (key-parts b)
-      (lexical-equal order (lexical-equal number-order number-equal) (listed-parts (key-parts a)) (listed-parts (key-parts b)) e))
+    (lexical-equal order (lexical-equal number-order number-equal) (listed-parts (key-parts a)) (listed-parts (key-parts b)) e))
 
 own-mirror : (o : Ordering) → o ≡ reversed o → o ≡ Equal
 own-mirror Less h = absurd (true≢false (ap isLt h))
@@ -136,7 +136,7 @@ bytes-same : (xs ys : List ℕ) → sameBytes xs ys ≡ true → xs ≡ ys
 bytes-same xs ys = sameBytes-decides xs ys .0
 
 six-parts : (a b c d e f : Bool) → (a && (b && (c && (d && (e && f))))) ≡ true
-  → (a ≡ true) × (b ≡ true) × (c ≡ true) × (d ≡ true) × (e ≡ true) × (f ≡ true)
+    → (a ≡ true) × (b ≡ true) × (c ≡ true) × (d ≡ true) × (e ≡ true) × (f ≡ true)
 six-parts a b c d e f h =
     let p = and-parts a (b && (c && (d && (e && f)))) h in
     let q = and-parts b (c && (d && (e && f))) (p .1) in
@@ -146,7 +146,7 @@ six-parts a b c d e f h =
     (p .0, q .0, r .0, s .0, t .0, t .1)
 
 six-from : (a b c d e f : Bool) → a ≡ true → b ≡ true → c ≡ true → d ≡ true → e ≡ true → f ≡ true
-  → (a && (b && (c && (d && (e && f))))) ≡ true
+    → (a && (b && (c && (d && (e && f))))) ≡ true
 six-from a b c d e f p q r s t u =
     and-from a _ p (and-from b _ q (and-from c _ r (and-from d _ s (and-from e f t u))))
 
@@ -154,7 +154,7 @@ pub parts-eq : (a b : Key-parts) → same-key a b ≡ true → a ≡ b
 unfolding same-key
 parts-eq a b e =
     let h = six-parts (eqb (kind-place (a .of-kind)) (kind-place (b .of-kind))) (sameBytes (a .of-id) (b .of-id)) (eqb (a .of-contract) (b .of-contract))
-        (sameBytes (a .of-venue) (b .of-venue)) (sameBytes (a .of-participant) (b .of-participant)) (eqb (side-place (a .of-side)) (side-place (b .of-side))) e in
+    (sameBytes (a .of-venue) (b .of-venue)) (sameBytes (a .of-participant) (b .of-participant)) (eqb (side-place (a .of-side)) (side-place (b .of-side))) e in
     let kind = kind-same (a .of-kind) (b .of-kind) (eqb-true (kind-place (a .of-kind)) (kind-place (b .of-kind)) (h .0)) in
     let id = bytes-same (a .of-id) (b .of-id) (h .1) in
     let contract = eqb-true (a .of-contract) (b .of-contract) (h .2) in
@@ -173,7 +173,7 @@ pub parts-same : (a : Key-parts) → same-key a a ≡ true
 unfolding same-key
 parts-same a =
     six-from _ _ _ _ _ _ (eqb-self (kind-place (a .of-kind))) (bytes-self (a .of-id)) (eqb-self (a .of-contract))
-      (bytes-self (a .of-venue)) (bytes-self (a .of-participant)) (eqb-self (side-place (a .of-side)))
+    (bytes-self (a .of-venue)) (bytes-self (a .of-participant)) (eqb-self (side-place (a .of-side)))
 
 -- keys with other words are not one
 pub other-word : (a b : Key) → (a .word ≡ b .word → ⊥) → false ≡ same-key (key-parts a) (key-parts b)

@@ -1,3 +1,4 @@
 pub mod KeyOrder
 pub mod Lives
 pub mod Lookups
+pub mod Plain

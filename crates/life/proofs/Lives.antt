@@ -1,78 +1,22 @@
--- Keys that test the same are one, and what look-ups become when one life changes.
+-- What look-ups in lists of lives become when one life changes.
 use mathlib.Core.Path.{_≡_, refl, sym, ap, _∙_, subst}
 use mathlib.Core.Bool.{Bool, true, false, cond, not, true≢false}
 use mathlib.Core.List.{List, [], _∷_, map}
 use mathlib.Core.Logic.{⊎-elim}
-use Prim.Native.Nat.{ℕ, suc, _≤_}
+use Prim.Native.Nat.{ℕ, suc, _+_, _≤_}
 use native.Mathlib.Omega.{arith}
 use lib.ListN.{length}
 use Rattle.std.specs.Options.{isSome}
-use Rattle.std.specs.shelf.Text.{sameBytes}
 use Rattle.std.specs.declared.option.Option.{Option}
 use Rattle.std.specs.declared.option.Option.the-variants.{Some, None}
-use Rattle.std.proofs.shelf.Equals.{sameBytes-decides}
-use Rattle.std.proofs.shelf.Tests.{and-from, and-parts, eqb-true, eq-eqb, cond-true, cond-false, cond-both, cases-bool}
-use Rattle.text.specs.Bytes.{Bytes}
-use Rattle.text.specs.declared.words.Kind.{Kind}
-use Rattle.text.specs.declared.words.Kind.the-variants.{Order, Trade}
-use Rattle.text.specs.declared.words.Side.{Side}
-use Rattle.text.specs.declared.words.Side.the-variants.{Buy, Sell}
+use Rattle.std.proofs.shelf.Tests.{and-from, and-parts, cond-true, cond-false, cond-both, cases-bool}
 use Rattle.life.specs.Parts.{Key-parts, Life-parts}
-use Rattle.life.specs.Lives.{Pair, Lives, same-kind, same-side, same-key, look, distinct, Unique, Same, altered, erase}
-
--- ---- Keys
-
-kind-same : (a : Kind) → same-kind a a ≡ true
-kind-same Order = refl
-kind-same Trade = refl
-
-kind-eq : (a b : Kind) → same-kind a b ≡ true → a ≡ b
-kind-eq Order Order e = refl
-kind-eq Order Trade e = absurd (true≢false (sym e))
-kind-eq Trade Order e = absurd (true≢false (sym e))
-kind-eq Trade Trade e = refl
-
-side-same : (a : Side) → same-side a a ≡ true
-side-same Buy = refl
-side-same Sell = refl
-
-side-eq : (a b : Side) → same-side a b ≡ true → a ≡ b
-side-eq Buy Buy e = refl
-side-eq Buy Sell e = absurd (true≢false (sym e))
-side-eq Sell Buy e = absurd (true≢false (sym e))
-side-eq Sell Sell e = refl
-
-text-same : (t : Bytes) → sameBytes t t ≡ true
-text-same t = sameBytes-decides t t .1 refl
-
-pub key-same : (k : Key-parts) → same-key k k ≡ true
-unfolding same-key
-key-same k =
-    and-from _ _ (kind-same (k .of-kind))
-    (and-from _ _ (text-same (k .of-id))
-    (and-from _ _ (eq-eqb (k .of-contract) _ refl)
-    (and-from _ _ (text-same (k .of-venue))
-    (and-from _ _ (text-same (k .of-participant)) (side-same (k .of-side))))))
-
-pub key-eq : (a b : Key-parts) → same-key a b ≡ true → a ≡ b
-unfolding same-key
-key-eq a b e =
-    let kind = and-parts _ _ e in
-    let id = and-parts _ _ (kind .1) in
-    let contract = and-parts _ _ (id .1) in
-    let venue = and-parts _ _ (contract .1) in
-    let last = and-parts _ _ (venue .1) in
-    λ i. record {
-      of-kind = kind-eq (a .of-kind) (b .of-kind) (kind .0) i;
-      of-id = sameBytes-decides (a .of-id) (b .of-id) .0 (id .0) i;
-      of-contract = eqb-true (a .of-contract) (b .of-contract) (contract .0) i;
-      of-venue = sameBytes-decides (a .of-venue) (b .of-venue) .0 (venue .0) i;
-      of-participant = sameBytes-decides (a .of-participant) (b .of-participant) .0 (last .0) i;
-      of-side = side-eq (a .of-side) (b .of-side) (last .1) i;
-    }
+use Rattle.life.specs.Keys.{same-key}
+use Rattle.life.proofs.KeyOrder.{parts-eq, parts-same}
+use Rattle.life.specs.Lives.{Pair, Lives, look, distinct, Unique, Same, altered, erase}
 
 pub same-turned : (k q : Key-parts) → same-key k q ≡ false → same-key q k ≡ false
-same-turned k q h = grind (arith, h, key-eq q k, key-same q)
+same-turned k q h = grind (arith, h, parts-eq q k, parts-same q)
 
 -- ---- Look-ups
 
@@ -91,14 +35,14 @@ erase-other : (j k : Key-parts) → same-key j k ≡ false → (ps : Lives) → 
 erase-other j k h [] = refl
 erase-other j k h (p ∷ ps) =
     cond-both (same-key k (p .0)) (erase k ps) (p ∷ erase k ps) (λ qs. look j qs ≡ look j (p ∷ ps))
-    (λ e. erase-other j k h ps ∙ sym (cond-false _ _ _ (subst (λ x. same-key j x ≡ false) (key-eq k (p .0) e) h)))
+    (λ e. erase-other j k h ps ∙ sym (cond-false _ _ _ (subst (λ x. same-key j x ≡ false) (parts-eq k (p .0) e) h)))
     (λ e. ap (cond (same-key j (p .0)) (Some (p .1))) (erase-other j k h ps))
 
 -- what stands at each key after an `erase`
 pub look-erase : (j k : Key-parts) (ps : Lives) → look j (erase k ps) ≡ cond (same-key j k) None (look j ps)
 look-erase j k ps =
     ⊎-elim
-    (λ e. ap (λ x. look x (erase k ps)) (key-eq j k e) ∙ erase-same k ps ∙ sym (cond-true _ _ _ e))
+    (λ e. ap (λ x. look x (erase k ps)) (parts-eq j k e) ∙ erase-same k ps ∙ sym (cond-true _ _ _ e))
     (λ e. erase-other j k e ps ∙ sym (cond-false _ _ _ e))
     (cases-bool (same-key j k))
 
@@ -138,7 +82,7 @@ same-erase k ps qs h j = look-erase j k ps ∙ ap (cond (same-key j k) None) (h 
 pub same-absent : (k : Key-parts) (ps : Lives) → look k ps ≡ None → Same ps (erase k ps)
 same-absent k ps h j =
     ⊎-elim
-    (λ e. ap (λ x. look x ps) (key-eq j k e) ∙ h ∙ sym (look-erase j k ps ∙ cond-true _ _ _ e))
+    (λ e. ap (λ x. look x ps) (parts-eq j k e) ∙ h ∙ sym (look-erase j k ps ∙ cond-true _ _ _ e))
     (λ e. sym (look-erase j k ps ∙ cond-false _ _ _ e))
     (cases-bool (same-key j k))
 
@@ -149,7 +93,7 @@ same-put k l ps qs h j = look-put j k l ps ∙ ap (cond (same-key j k) (Some l))
 pub same-rest : (p : Pair) (ps qs : Lives) → Unique (p ∷ ps) → Same (p ∷ ps) qs → Same ps (erase (p .0) qs)
 same-rest p ps qs u h j =
     ⊎-elim
-    (λ e. ap (λ x. look x ps) (key-eq j (p .0) e) ∙ unique-parts p ps u .0 ∙ sym (look-erase j (p .0) qs ∙ cond-true _ _ _ e))
+    (λ e. ap (λ x. look x ps) (parts-eq j (p .0) e) ∙ unique-parts p ps u .0 ∙ sym (look-erase j (p .0) qs ∙ cond-true _ _ _ e))
     (λ e. sym (cond-false _ _ _ e) ∙ h j ∙ sym (look-erase j (p .0) qs ∙ cond-false _ _ _ e))
     (cases-bool (same-key j (p .0)))
 
@@ -165,7 +109,7 @@ look-altered k f (p ∷ ps) = grind (arith, look-altered k f ps)
 
 pub look-apart : (k q : Key-parts) (f : Life-parts → Life-parts) (ps : Lives) → same-key k q ≡ false → look q (altered k f ps) ≡ look q ps
 look-apart k q f [] h = refl
-look-apart k q f (p ∷ ps) h = grind (arith, look-apart k q f ps h, key-eq q (p .0))
+look-apart k q f (p ∷ ps) h = grind (arith, look-apart k q f ps h, parts-eq q (p .0))
 
 altered-none : (k q : Key-parts) (f : Life-parts → Life-parts) (ps : Lives) → look q ps ≡ None → look q (altered k f ps) ≡ None
 altered-none k q f [] h = refl
@@ -186,3 +130,49 @@ length-erase k [] = omega arith
 length-erase k (p ∷ ps) =
     let ih = length-erase k ps in
     cond-both (same-key k (p .0)) (erase k ps) (p ∷ erase k ps) (λ qs. length qs ≤ suc (length ps)) (λ _. omega arith) (λ _. omega arith)
+
+cond-apart : {X : Type 0} (t : Bool) (x y z : X) → (t ≡ true → z ≡ x) → (t ≡ false → z ≡ y) → z ≡ cond t x y
+cond-apart true x y z f g = f refl
+cond-apart false x y z f g = g refl
+
+-- what stands at each key when one life is altered
+pub look-altered-at : (j k : Key-parts) (f : Life-parts → Life-parts) (ps : Lives) → look j (altered k f ps) ≡ cond (same-key j k) (mapped f (look k ps)) (look j ps)
+look-altered-at j k f ps =
+    cond-apart (same-key j k) _ _ _
+    (λ e. ap (λ x. look x (altered k f ps)) (parts-eq j k e) ∙ look-altered k f ps)
+    (λ e. look-apart k j f ps (same-turned j k e))
+
+-- ---- How many lives there are
+
+abbrev one-if : Option Life-parts → ℕ
+one-if None = 0
+one-if (Some l) = 1
+
+length-split : (k : Key-parts) (ps : Lives) → Unique ps → length ps ≡ one-if (look k ps) + length (erase k ps)
+length-split k [] u = omega arith
+length-split k (p ∷ ps) u =
+    let once = unique-parts p ps u in
+    let rest = length-split k ps (once .1) in
+    ⊎-elim
+    (λ e.
+    let gone : look k ps ≡ None = ap (λ x. look x ps) (parts-eq k (p .0) e) ∙ once .0 in
+    let less : length ps ≡ 0 + length (erase k ps) = rest ∙ ap (λ o. one-if o + length (erase k ps)) gone in
+    let more : suc (length ps) ≡ 1 + length (erase k ps) = omega (arith, less) in
+    more ∙ sym (ap (λ b. one-if (cond b (Some (p .1)) (look k ps)) + length (cond b (erase k ps) (p ∷ erase k ps))) e))
+    (λ e.
+    let more : suc (length ps) ≡ one-if (look k ps) + suc (length (erase k ps)) = omega (arith, rest) in
+    more ∙ sym (ap (λ b. one-if (cond b (Some (p .1)) (look k ps)) + length (cond b (erase k ps) (p ∷ erase k ps))) e))
+    (cases-bool (same-key k (p .0)))
+
+-- lists with the same look-ups and no key twice are as long as each other
+pub length-same : (ps qs : Lives) → Unique ps → Unique qs → Same ps qs → length ps ≡ length qs
+length-same [] [] u w h = refl
+length-same [] (q ∷ qs) u w h =
+    let e : None ≡ Some (q .1) = h (q .0) ∙ cond-true _ _ _ (parts-same (q .0)) in
+    let z : _≡_ {A = ℕ} 0 1 = cc in
+    absurd (omega arith)
+length-same (p ∷ ps) qs u w h =
+    let there : look (p .0) qs ≡ Some (p .1) = sym (h (p .0)) ∙ cond-true _ _ _ (parts-same (p .0)) in
+    let rest = length-same ps (erase (p .0) qs) (unique-parts p ps u .1) (unique-erase (p .0) qs w) (same-rest p ps qs u h) in
+    let split : length qs ≡ 1 + length (erase (p .0) qs) = length-split (p .0) qs w ∙ ap (λ o. one-if o + length (erase (p .0) qs)) there in
+    omega (arith, rest, split)

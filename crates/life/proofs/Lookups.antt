@@ -4,14 +4,14 @@ use mathlib.Core.List.{List, [], _∷_}
 use mathlib.Core.Bool.{Bool, true, false, cond, not, true≢false}
 use Rattle.std.specs.Options.{isSome}
 use mathlib.Core.Logic.{⊎-elim}
-use Rattle.std.proofs.shelf.Tests.{and-from, and-parts, eqb-true, eq-eqb, cond-true, cond-false, cond-both, cases-bool}
+use Rattle.std.proofs.shelf.Tests.{and-from, and-parts, cond-true, cond-false, cond-both, cases-bool}
 use Rattle.std.specs.declared.option.Option.{Option}
 use Rattle.std.specs.declared.option.Option.the-variants.{Some, None}
 use Rattle.life.specs.declared.key.Key.{Key}
 use Rattle.life.specs.declared.life.Life.{Life}
 use Rattle.life.specs.Keys.{alike}
-use Rattle.life.proofs.KeyOrder.{key-eq, key-same}
-use Rattle.life.specs.Pairs.{look, erase, added, distinct, Unique, Same}
+use Rattle.life.proofs.KeyOrder.{key-eq}
+use Rattle.life.specs.Pairs.{look, erase, distinct, Unique, Same}
 
 cond-same : {A : Type 0} (b : Bool) (x : A) → cond b x x ≡ x
 cond-same true x = refl

@@ -1,5 +1,4 @@
 -- What an action on a life answers, and the life afterwards.
-use mathlib.Core.Bool.{Bool, true, false}
 use Prim.Native.Nat.{ℕ}
 use lib.Dec.{leb}
 use lib.IntN.{ℤ}
@@ -16,7 +15,7 @@ use Rattle.life.specs.declared.fault.LifeFault.{LifeFault}
 use Rattle.life.specs.declared.life.Life.{Life}
 use Rattle.life.specs.Faults.{life-number, life-field}
 use Rattle.life.specs.Parts.{Life-parts, life-parts}
-use Rattle.life.specs.Rules.{Claim, by-action, life-rows, new-life, modified, cancelled}
+use Rattle.life.specs.Rules.{by-action, life-rows, new-life, modified, cancelled}
 
 abbrev pub life-in : Option Life → Option Life-parts
 life-in None = None

@@ -1,5 +1,4 @@
 -- The published numbers, fields and codes of refusals.
-use mathlib.Core.Bool.{Bool, cond}
 use Prim.Native.Nat.{ℕ}
 use lib.Chars.{codes}
 use Rattle.std.specs.declared.option.Option.{Option}

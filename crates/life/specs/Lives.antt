@@ -2,17 +2,12 @@
 use mathlib.Core.Path.{_≡_}
 use mathlib.Core.List.{List, [], _∷_, map}
 use mathlib.Core.Bool.{Bool, true, false, cond, not, _&&_}
-use lib.Dec.{eqb}
 use Rattle.std.specs.Options.{isSome}
-use Rattle.std.specs.shelf.Text.{sameBytes}
 use Rattle.std.specs.declared.option.Option.{Option}
 use Rattle.std.specs.declared.option.Option.the-variants.{Some, None}
-use Rattle.text.specs.declared.words.Kind.{Kind}
-use Rattle.text.specs.declared.words.Kind.the-variants.{Order, Trade}
-use Rattle.text.specs.declared.words.Side.{Side}
-use Rattle.text.specs.declared.words.Side.the-variants.{Buy, Sell}
 use Rattle.life.specs.declared.key.Key.{Key}
 use Rattle.life.specs.declared.life.Life.{Life}
+use Rattle.life.specs.Keys.{same-key}
 use Rattle.life.specs.Parts.{Key-parts, Life-parts, key-parts, life-parts}
 
 -- a key and its life
@@ -23,32 +18,11 @@ abbrev pub Lives : Type 0
 Lives = List Pair
 
 -- the pairs that code holds, as plain data
+abbrev pub plain-pair : Key × Life → Pair
+plain-pair p = (key-parts (p .0), life-parts (p .1))
+
 abbrev pub plain : List (Key × Life) → Lives
-plain = map (λ p. (key-parts (p .0), life-parts (p .1)))
-
--- ---- Keys
-
-abbrev pub same-kind : Kind → Kind → Bool
-same-kind Order Order = true
-same-kind Order Trade = false
-same-kind Trade Order = false
-same-kind Trade Trade = true
-
-abbrev pub same-side : Side → Side → Bool
-same-side Buy Buy = true
-same-side Buy Sell = false
-same-side Sell Buy = false
-same-side Sell Sell = true
-
--- whether two keys are one: all six parts are the same
-unfoldable pub same-key : Key-parts → Key-parts → Bool
-same-key a b =
-    same-kind (a .of-kind) (b .of-kind)
-    && (sameBytes (a .of-id) (b .of-id)
-    && (eqb (a .of-contract) (b .of-contract)
-    && (sameBytes (a .of-venue) (b .of-venue)
-    && (sameBytes (a .of-participant) (b .of-participant)
-    && same-side (a .of-side) (b .of-side)))))
+plain = map plain-pair
 
 -- ---- Look-ups
 

@@ -1,7 +1,6 @@
 -- Keys and lives as plain data: what the rules speak of.
 use Prim.Native.Nat.{ℕ}
 use lib.IntN.{ℤ}
-use mathlib.Core.List.{List}
 use Rattle.std.specs.declared.option.Option.{Option}
 use Rattle.text.specs.Bytes.{Bytes}
 use Rattle.text.specs.Texts.{textOf}

@@ -26,7 +26,12 @@ impl Life {
         if quantity > MOST {
             return None;
         }
-        Some(Life { state: State::Open, time, quantity, price })
+        Some(Life {
+            state: State::Open,
+            time,
+            quantity,
+            price,
+        })
     }
 
     // What an action does to a standing life, as `told` by its line: time, quantity and price. The life changes in place; a
@@ -46,7 +51,12 @@ impl Life {
         }
         match action {
             Action::Modify => {
-                *self = Life { state: self.state, time: told.time, quantity: told.quantity, price: told.price };
+                *self = Life {
+                    state: self.state,
+                    time: told.time,
+                    quantity: told.quantity,
+                    price: told.price,
+                };
                 Ok(Outcome::Stays)
             }
             Action::Cancel => {
@@ -64,7 +74,12 @@ pub fn first(action: Action, told: &Life) -> Result<Life, LifeFault>
     ensures { λ r. ⌜ begun r ≡ begins (now (told .entry)) (fault-of action (now (told .entry)) None) ⌝ }
 {
     match action {
-        Action::New => Ok(Life { state: State::Open, time: told.time, quantity: told.quantity, price: told.price }),
+        Action::New => Ok(Life {
+            state: State::Open,
+            time: told.time,
+            quantity: told.quantity,
+            price: told.price,
+        }),
         Action::Modify => Err(LifeFault::NotOpen),
         Action::Cancel => Err(LifeFault::NoneToCancel),
         Action::Error => Err(LifeFault::NoneToStrike),

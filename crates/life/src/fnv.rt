@@ -3,6 +3,7 @@ ghost use mathlib.Core.Path.{_≡_};
 ghost use Rattle.life.specs.Fnv.{fnv, «word-of»};
 
 const START: u64 = 14695981039346656037;
+
 const PRIME: u64 = 1099511628211;
 
 // The word of the bytes, going on from `start`.

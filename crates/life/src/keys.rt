@@ -85,7 +85,14 @@ fn same_sides(x: Side, y: Side) -> bool
 impl Key {
     // The one place where a key is made. None where the id has over 52 bytes, the contract number is over 63, the venue
     // has not 4 bytes or the participant not 12.
-    pub fn new(kind: Kind, id: &[u8], contract: u8, venue: &[u8], participant: &[u8], side: Side) -> Option<Key>
+    pub fn new(
+        kind: Kind,
+        id: &[u8],
+        contract: u8,
+        venue: &[u8],
+        participant: &[u8],
+        side: Side,
+    ) -> Option<Key>
         ensures { λ r. ⌜ made r ≡ given kind (now (id .entry)) contract (now (venue .entry)) (now (participant .entry)) side ⌝ }
     {
         if contract >= CONTRACTS {
@@ -95,7 +102,15 @@ impl Key {
         let venue = array(venue)?;
         let participant = array(participant)?;
         let word = hash(text.as_slice());
-        Some(Key { kind, id: text, contract, venue, participant, side, word })
+        Some(Key {
+            kind,
+            id: text,
+            contract,
+            venue,
+            participant,
+            side,
+            word,
+        })
     }
 
     // Whether two keys are one. Keys with other words have other ids, and most are told apart by that.
@@ -112,7 +127,8 @@ impl Key {
             && (self.id.same(&other.id)
                 && (self.contract == other.contract
                     && (same_bytes(&self.venue, &other.venue)
-                        && (same_bytes(&self.participant, &other.participant) && same_sides(self.side, other.side)))))
+                        && (same_bytes(&self.participant, &other.participant)
+                            && same_sides(self.side, other.side)))))
     }
 
     // Which of two keys comes first. That is a strict and total order.

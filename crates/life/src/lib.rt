@@ -6,6 +6,7 @@ mod key;
 mod keys;
 mod life;
 mod store;
+
 pub use acts::Outcome;
 pub use acts::first;
 pub use fault::LifeFault;

@@ -16,8 +16,8 @@ pub rest-from : (at m : ℕ) (bs : List ℕ) → m ≡ min at (length bs) → ta
 rest-from at m bs e =
     take-rest bs m
     ∙ ⊎-elim
-      (λ (y : leb at (length bs) ≡ true). ap (λ n. drop n bs) (let l : at ≤ length bs = grind (arith, tells) in omega arith))
-      (λ (n : leb at (length bs) ≡ false).
-          let l : length bs < at = grind (arith, tells) in
-          drop-all m bs (omega arith) ∙ sym (drop-all at bs (omega arith)))
-      (cases-bool (leb at (length bs)))
+    (λ (y : leb at (length bs) ≡ true). ap (λ n. drop n bs) (let l : at ≤ length bs = grind (arith, tells) in omega arith))
+    (λ (n : leb at (length bs) ≡ false).
+    let l : length bs < at = grind (arith, tells) in
+    drop-all m bs (omega arith) ∙ sym (drop-all at bs (omega arith)))
+    (cases-bool (leb at (length bs)))

@@ -8,13 +8,14 @@ use native.Mathlib.Nat.{add-assoc}
 use native.Mathlib.Omega.{arith}
 use lib.Dec.{eqb, ltb}
 use lib.ListN.{length, drop}
+use Rattle.std.specs.shelf.Lists.{countBy}
 use Rattle.std.proofs.shelf.Lists.{drop-drop, length-take-le}
 use Rattle.std.proofs.shelf.Sums.{sumBy-cons}
 use Rattle.std.proofs.shelf.Tests.{cases-bool}
 use Rattle.std.proofs.shelf.Ways.{tells}
 use Rattle.text.specs.Bytes.{Bytes, pieces, piece, start, onto-first}
 use Rattle.text.specs.Cuts.{span-to}
-use Rattle.text.specs.Rows.{fields, separators-in}
+use Rattle.text.specs.Rows.{fields}
 use Rattle.text.proofs.Pieces.{first-after, after-at}
 use Rattle.line.specs.Reads.{front, pace}
 
@@ -25,6 +26,10 @@ offset (suc k) bs = offset k bs + pace (drop (offset k bs) bs)
 
 abbrev pub text : ℕ → Bytes → Bytes
 text k bs = front (drop (offset k bs) bs)
+
+-- how many semicolons a text has
+abbrev pub separators-in : Bytes → ℕ
+separators-in bs = countBy (λ b. eqb b 59) bs
 
 length-onto-first : (b : ℕ) (fs : List (List ℕ)) → 0 < length fs → length (onto-first b fs) ≡ length fs
 length-onto-first b [] h = absurd (omega arith)
@@ -65,8 +70,8 @@ second k bs h =
     ⊎-elim
     (λ (y : ltb (span-to 59 bs) (length bs) ≡ true). y)
     (λ (n : ltb (span-to 59 bs) (length bs) ≡ false).
-        let l = ap (λ t. length (after-at 59 t (pace bs) bs)) n in
-        absurd (omega (arith, long, l)))
+    let l = ap (λ t. length (after-at 59 t (pace bs) bs)) n in
+    absurd (omega (arith, long, l)))
     (cases-bool (ltb (span-to 59 bs) (length bs)))
 
 -- and the others are those of what comes after it
@@ -99,4 +104,3 @@ starts (suc k) bs h =
     offset-shift k bs
     ∙ (λ i. pace-is bs (second k bs h) i + starts k (drop (pace bs) bs) (omega (arith, l)) i)
     ∙ sym (ap (λ fs. start (suc (suc k)) fs) e)
-

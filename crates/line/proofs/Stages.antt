@@ -70,13 +70,15 @@ module _ {A X V : Type 0} (hand-out : Bytes → ℕ → A → X) (form : Bytes �
       → Reached bs all v q line′ (suc k) rows × Says hand-out form k bs x
   onward {x} e f l =
       let s = said-some (hand-out (text k bs) (offset k bs)) (form (text k bs)) (suc k) (offset k bs) x (here e) in
-      let t = ap form (sym (texts k bs short)) ∙ s .1 in
-      (record {
-        there = ap (λ t. t .at) f ∙ (λ i. h .there i + pace (drop (h .there i) (h .whole i))) ∙ sym (offset-next k bs);
-        count = ap (λ t. t .field) f ∙ next-is (p .field) k (h .count) few;
-        whole = l ∙ h .whole;
-        is = h .is ∙ row-passes rows bs v (form-row n (suc k) form) (ap (λ o. not (has-form o)) t);
-      }, (s .0, t, s .2))
+      let t = ap form (sym (texts k bs short)) ∙ s .1 in (
+        record {
+          there = ap (λ t. t .at) f ∙ (λ i. h .there i + pace (drop (h .there i) (h .whole i))) ∙ sym (offset-next k bs);
+          count = ap (λ t. t .field) f ∙ next-is (p .field) k (h .count) few;
+          whole = l ∙ h .whole;
+          is = h .is ∙ row-passes rows bs v (form-row n (suc k) form) (ap (λ o. not (has-form o)) t);
+        },
+        (s .0, t, s .2),
+      )
 
   -- the first row that fits is this one
   pub stopped : {x : ReadFault} → Err x ≡ read hand-out form p line → (x ≡ Form (suc k) (offset k bs)) × (settled all bs v ≡ Err (Refused n (suc k) (offset k bs)))

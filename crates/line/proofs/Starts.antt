@@ -57,18 +57,18 @@ further n at s bs h l e =
     let here : start-from n at bs ≡ start n (fields rest) = ap (λ t. cond t (start n (fields rest)) 0) within in
     ⊎-elim
     (λ (y : ltb s (length rest) ≡ true).
-        let more : s < length rest = grind (arith, tells) in
-        let next : drop (span-to 59 rest + 1) rest ≡ drop (at + (s + 1)) bs = ap (λ m. drop (m + 1) rest) (sym e) ∙ drop-drop (s + 1) at bs in
-        let there : leb (at + (s + 1)) (length bs) ≡ true = grind (arith, tells) in
-        let step : start n (fields rest) ≡ s + 1 + start (n - 1) (fields (drop (at + (s + 1)) bs)) =
-          ap (start n) (piece-and-more 59 rest (omega arith)) ∙ start-cons n _ _ h ∙ (λ i. front i + 1 + start (n - 1) (fields (next i))) in
-        let last : start-from (n - 1) (at + (s + 1)) bs ≡ start (n - 1) (fields (drop (at + (s + 1)) bs)) =
-          ap (λ t. cond t (start (n - 1) (fields (drop (at + (s + 1)) bs))) 0) there in
-        omega (arith, here, step, last))
+    let more : s < length rest = grind (arith, tells) in
+    let next : drop (span-to 59 rest + 1) rest ≡ drop (at + (s + 1)) bs = ap (λ m. drop (m + 1) rest) (sym e) ∙ drop-drop (s + 1) at bs in
+    let there : leb (at + (s + 1)) (length bs) ≡ true = grind (arith, tells) in
+    let step : start n (fields rest) ≡ s + 1 + start (n - 1) (fields (drop (at + (s + 1)) bs)) =
+    ap (start n) (piece-and-more 59 rest (omega arith)) ∙ start-cons n _ _ h ∙ (λ i. front i + 1 + start (n - 1) (fields (next i))) in
+    let last : start-from (n - 1) (at + (s + 1)) bs ≡ start (n - 1) (fields (drop (at + (s + 1)) bs)) =
+    ap (λ t. cond t (start (n - 1) (fields (drop (at + (s + 1)) bs))) 0) there in
+    omega (arith, here, step, last))
     (λ (o : ltb s (length rest) ≡ false).
-        let end : length rest ≤ s = grind (arith, tells) in
-        let step : start n (fields rest) ≡ s + 1 + 0 =
-          ap (start n) (piece-alone 59 rest (omega arith)) ∙ start-cons n _ _ h ∙ (λ i. front i + 1 + start-none (n - 1) i) in
-        let last = over (n - 1) (at + (s + 1)) bs (omega arith) in
-        omega (arith, here, step, last))
+    let end : length rest ≤ s = grind (arith, tells) in
+    let step : start n (fields rest) ≡ s + 1 + 0 =
+    ap (start n) (piece-alone 59 rest (omega arith)) ∙ start-cons n _ _ h ∙ (λ i. front i + 1 + start-none (n - 1) i) in
+    let last = over (n - 1) (at + (s + 1)) bs (omega arith) in
+    omega (arith, here, step, last))
     (cases-bool (ltb s (length rest)))

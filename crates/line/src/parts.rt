@@ -6,11 +6,28 @@ use text::Names;
 
 #[derive(Clone, Copy)]
 pub enum Part<'a> {
-    Blank { at: usize },
-    Word { text: &'a [u8], at: usize },
-    Number { value: u64, text: &'a [u8], at: usize },
-    Signed { value: i64, text: &'a [u8], at: usize },
-    Names { names: Names<'a>, text: &'a [u8], at: usize },
+    Blank {
+        at: usize,
+    },
+    Word {
+        text: &'a [u8],
+        at: usize,
+    },
+    Number {
+        value: u64,
+        text: &'a [u8],
+        at: usize,
+    },
+    Signed {
+        value: i64,
+        text: &'a [u8],
+        at: usize,
+    },
+    Names {
+        names: Names<'a>,
+        text: &'a [u8],
+        at: usize,
+    },
 }
 
 impl<'a> Part<'a> {

@@ -22,6 +22,10 @@ impl Drop for Rewind<'_> {
         if !self.kept {
             *self.place = self.start;
         }
-        let Rewind { place: _, start: _, kept: _ } = self;
+        let Rewind {
+            place: _,
+            start: _,
+            kept: _,
+        } = self;
     }
 }

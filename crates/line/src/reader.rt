@@ -6,11 +6,16 @@ ghost use Prim.Native.Nat.{ℕ, _+_};
 ghost use lib.ListN.{drop};
 ghost use Rattle.std.specs.declared.option.Option.{Option};
 ghost use Rattle.text.specs.Forms.{«kind-form», «id-form», «venue-form», «code-form», «side-form», «action-form», «time-form», «quantity-form», «price-form», «names-form»};
+ghost use Rattle.line.specs.declared.faults.ReadFault.the-variants.{Form};
 ghost use Rattle.line.specs.Reads.{front, pace, «next-field», read, past, seen, seenIn, «as-read», «as-word», «as-number», «as-price», «as-names»};
 use crate::faults::ReadFault;
 use crate::parts::Part;
 use crate::place::Place;
 use crate::place::Rewind;
+use text::Action;
+use text::Kind;
+use text::Names;
+use text::Side;
 use text::is_code;
 use text::is_id;
 use text::is_venue;
@@ -18,10 +23,6 @@ use text::price_of;
 use text::quantity_of;
 use text::span_to;
 use text::time_of;
-use text::Action;
-use text::Kind;
-use text::Names;
-use text::Side;
 
 // The bytes up to the next separator; the place is past it then.
 fn take_field<'a>(line: &'a [u8], place: &mut Place) -> &'a [u8]
@@ -43,7 +44,11 @@ fn take_field<'a>(line: &'a [u8], place: &mut Place) -> &'a [u8]
 fn word<'a>(text: &'a [u8], at: usize) -> Part<'a>
     ensures { λ r. ⌜ seen r ≡ as-word (now (text .entry)) at (now (text .entry)) ⌝ }
 {
-    if text.len() == 0 { Part::Blank { at } } else { Part::Word { text, at } }
+    if text.len() == 0 {
+        Part::Blank { at }
+    } else {
+        Part::Word { text, at }
+    }
 }
 
 // A signed number, or a blank where there is none.
@@ -56,12 +61,46 @@ fn signed<'a>(price: Option<i64>, text: &'a [u8], at: usize) -> Part<'a>
     }
 }
 
-// What a field of one form says.
-pub trait Form {
+// The field at a place lacks its form.
+fn lacks_form(start: Place) -> ReadFault
+    ensures { λ r. ⌜ r ≡ Form (next-field (start .field)) (start .at) ⌝ }
+{
+    ReadFault::Form {
+        field: start.field.saturating_add(1),
+        at: start.at,
+    }
+}
+
+// A value that a field writes by its form.
+pub trait FieldForm {
     ghost form: { List ℕ → Option Self };
 
     fn said_by(text: &[u8]) -> Option<Self>
         ensures { λ r. ⌜ r ≡ form (now (text .entry)) ⌝ };
+}
+
+pub impl FieldForm for Kind as KindField {
+    ghost form = { kind-form };
+
+    fn said_by(text: &[u8]) -> Option<Kind> {
+        Kind::of(text)
+    }
+}
+
+pub impl FieldForm for Side as SideField {
+    ghost form = { side-form };
+
+    fn said_by(text: &[u8]) -> Option<Side> {
+        Side::of(text)
+    }
+}
+
+pub impl FieldForm for Action as ActionField {
+    ghost form = { action-form };
+
+    fn said_by(text: &[u8]) -> Option<Action> {
+        Action::of(text)
+    }
 }
 
 #[derive(Drop)]
@@ -76,39 +115,30 @@ impl<'a> Reader<'a> {
         ensures line { λ r. ⌜ now (r .line) ≡ now (line .entry) ⌝ }
         ensures place { λ r. ⌜ r .place ≡ record { at = 0; field = 0 } ⌝ }
     {
-        Reader { line, place: Place { at: 0, field: 0 } }
+        Reader {
+            line,
+            place: Place { at: 0, field: 0 },
+        }
     }
 
-    // A field of any form.
-    pub fn value<F: Form>(&mut self) -> Result<F, ReadFault>
-        ensures told { λ r. ⌜ r ≡ read as-read (F·Form .form) (now (self .entry) .place) (now (now (self .entry) .line)) ⌝ }
+    // The value that a field writes by its form.
+    pub fn value<F: FieldForm>(&mut self) -> Result<F, ReadFault>
+        ensures told { λ r. ⌜ r ≡ read as-read (F·FieldForm .form) (now (self .entry) .place) (now (now (self .entry) .line)) ⌝ }
         ensures place { λ r. ⌜ now (self .exit) .place ≡ past (now (self .entry) .place) (now (now (self .entry) .line)) r ⌝ }
         ensures line { λ _. ⌜ now (now (self .exit) .line) ≡ now (now (self .entry) .line) ⌝ }
     {
         let start = self.place;
-        let mut guard = Rewind { place: &mut self.place, start, kept: false };
+        let mut guard = Rewind {
+            place: &mut self.place,
+            start,
+            kept: false,
+        };
         let text = take_field(self.line, guard.place);
         let Some(value) = F::said_by(text) else {
-            return Err(ReadFault::Form { field: start.field.saturating_add(1), at: start.at });
+            return Err(lacks_form(start));
         };
         guard.kept = true;
         Ok(value)
-    }
-
-    // ORD or TRD.
-    pub fn kind(&mut self) -> Result<Kind, ReadFault>
-        ensures told { λ r. ⌜ r ≡ read as-read kind-form (now (self .entry) .place) (now (now (self .entry) .line)) ⌝ }
-        ensures place { λ r. ⌜ now (self .exit) .place ≡ past (now (self .entry) .place) (now (now (self .entry) .line)) r ⌝ }
-        ensures line { λ _. ⌜ now (now (self .exit) .line) ≡ now (now (self .entry) .line) ⌝ }
-    {
-        let start = self.place;
-        let mut guard = Rewind { place: &mut self.place, start, kept: false };
-        let text = take_field(self.line, guard.place);
-        let Some(kind) = Kind::of(text) else {
-            return Err(ReadFault::Form { field: start.field.saturating_add(1), at: start.at });
-        };
-        guard.kept = true;
-        Ok(kind)
     }
 
     // From `least` to `most` id bytes.
@@ -118,10 +148,14 @@ impl<'a> Reader<'a> {
         ensures line { λ _. ⌜ now (now (self .exit) .line) ≡ now (now (self .entry) .line) ⌝ }
     {
         let start = self.place;
-        let mut guard = Rewind { place: &mut self.place, start, kept: false };
+        let mut guard = Rewind {
+            place: &mut self.place,
+            start,
+            kept: false,
+        };
         let text = take_field(self.line, guard.place);
         if !is_id(text, least, most) {
-            return Err(ReadFault::Form { field: start.field.saturating_add(1), at: start.at });
+            return Err(lacks_form(start));
         }
         guard.kept = true;
         Ok(word(text, start.at))
@@ -134,10 +168,14 @@ impl<'a> Reader<'a> {
         ensures line { λ _. ⌜ now (now (self .exit) .line) ≡ now (now (self .entry) .line) ⌝ }
     {
         let start = self.place;
-        let mut guard = Rewind { place: &mut self.place, start, kept: false };
+        let mut guard = Rewind {
+            place: &mut self.place,
+            start,
+            kept: false,
+        };
         let text = take_field(self.line, guard.place);
         if !is_venue(text) {
-            return Err(ReadFault::Form { field: start.field.saturating_add(1), at: start.at });
+            return Err(lacks_form(start));
         }
         guard.kept = true;
         Ok(word(text, start.at))
@@ -150,45 +188,17 @@ impl<'a> Reader<'a> {
         ensures line { λ _. ⌜ now (now (self .exit) .line) ≡ now (now (self .entry) .line) ⌝ }
     {
         let start = self.place;
-        let mut guard = Rewind { place: &mut self.place, start, kept: false };
+        let mut guard = Rewind {
+            place: &mut self.place,
+            start,
+            kept: false,
+        };
         let text = take_field(self.line, guard.place);
         if !is_code(text) {
-            return Err(ReadFault::Form { field: start.field.saturating_add(1), at: start.at });
+            return Err(lacks_form(start));
         }
         guard.kept = true;
         Ok(word(text, start.at))
-    }
-
-    // B or S.
-    pub fn side(&mut self) -> Result<Side, ReadFault>
-        ensures told { λ r. ⌜ r ≡ read as-read side-form (now (self .entry) .place) (now (now (self .entry) .line)) ⌝ }
-        ensures place { λ r. ⌜ now (self .exit) .place ≡ past (now (self .entry) .place) (now (now (self .entry) .line)) r ⌝ }
-        ensures line { λ _. ⌜ now (now (self .exit) .line) ≡ now (now (self .entry) .line) ⌝ }
-    {
-        let start = self.place;
-        let mut guard = Rewind { place: &mut self.place, start, kept: false };
-        let text = take_field(self.line, guard.place);
-        let Some(side) = Side::of(text) else {
-            return Err(ReadFault::Form { field: start.field.saturating_add(1), at: start.at });
-        };
-        guard.kept = true;
-        Ok(side)
-    }
-
-    // One of the letters N, M, E and C.
-    pub fn action(&mut self) -> Result<Action, ReadFault>
-        ensures told { λ r. ⌜ r ≡ read as-read action-form (now (self .entry) .place) (now (now (self .entry) .line)) ⌝ }
-        ensures place { λ r. ⌜ now (self .exit) .place ≡ past (now (self .entry) .place) (now (now (self .entry) .line)) r ⌝ }
-        ensures line { λ _. ⌜ now (now (self .exit) .line) ≡ now (now (self .entry) .line) ⌝ }
-    {
-        let start = self.place;
-        let mut guard = Rewind { place: &mut self.place, start, kept: false };
-        let text = take_field(self.line, guard.place);
-        let Some(action) = Action::of(text) else {
-            return Err(ReadFault::Form { field: start.field.saturating_add(1), at: start.at });
-        };
-        guard.kept = true;
-        Ok(action)
     }
 
     // A time in seconds.
@@ -198,13 +208,21 @@ impl<'a> Reader<'a> {
         ensures line { λ _. ⌜ now (now (self .exit) .line) ≡ now (now (self .entry) .line) ⌝ }
     {
         let start = self.place;
-        let mut guard = Rewind { place: &mut self.place, start, kept: false };
+        let mut guard = Rewind {
+            place: &mut self.place,
+            start,
+            kept: false,
+        };
         let text = take_field(self.line, guard.place);
         let Some(value) = time_of(text) else {
-            return Err(ReadFault::Form { field: start.field.saturating_add(1), at: start.at });
+            return Err(lacks_form(start));
         };
         guard.kept = true;
-        Ok(Part::Number { value: value as u64, text, at: start.at })
+        Ok(Part::Number {
+            value: value as u64,
+            text,
+            at: start.at,
+        })
     }
 
     // A quantity in hundred-thousandths.
@@ -214,13 +232,21 @@ impl<'a> Reader<'a> {
         ensures line { λ _. ⌜ now (now (self .exit) .line) ≡ now (now (self .entry) .line) ⌝ }
     {
         let start = self.place;
-        let mut guard = Rewind { place: &mut self.place, start, kept: false };
+        let mut guard = Rewind {
+            place: &mut self.place,
+            start,
+            kept: false,
+        };
         let text = take_field(self.line, guard.place);
         let Some(value) = quantity_of(text) else {
-            return Err(ReadFault::Form { field: start.field.saturating_add(1), at: start.at });
+            return Err(lacks_form(start));
         };
         guard.kept = true;
-        Ok(Part::Number { value, text, at: start.at })
+        Ok(Part::Number {
+            value,
+            text,
+            at: start.at,
+        })
     }
 
     // A price in hundred-thousandths, or a blank.
@@ -230,10 +256,14 @@ impl<'a> Reader<'a> {
         ensures line { λ _. ⌜ now (now (self .exit) .line) ≡ now (now (self .entry) .line) ⌝ }
     {
         let start = self.place;
-        let mut guard = Rewind { place: &mut self.place, start, kept: false };
+        let mut guard = Rewind {
+            place: &mut self.place,
+            start,
+            kept: false,
+        };
         let text = take_field(self.line, guard.place);
         let Some(price) = price_of(text) else {
-            return Err(ReadFault::Form { field: start.field.saturating_add(1), at: start.at });
+            return Err(lacks_form(start));
         };
         guard.kept = true;
         Ok(signed(price, text, start.at))
@@ -246,12 +276,20 @@ impl<'a> Reader<'a> {
         ensures line { λ _. ⌜ now (now (self .exit) .line) ≡ now (now (self .entry) .line) ⌝ }
     {
         let start = self.place;
-        let mut guard = Rewind { place: &mut self.place, start, kept: false };
+        let mut guard = Rewind {
+            place: &mut self.place,
+            start,
+            kept: false,
+        };
         let text = take_field(self.line, guard.place);
         let Some(names) = Names::of(text) else {
-            return Err(ReadFault::Form { field: start.field.saturating_add(1), at: start.at });
+            return Err(lacks_form(start));
         };
         guard.kept = true;
-        Ok(Part::Names { names, text, at: start.at })
+        Ok(Part::Names {
+            names,
+            text,
+            at: start.at,
+        })
     }
 }

@@ -1,12 +1,15 @@
 // A report line, read.
 ghost use mathlib.Core.Path.{_≡_};
 ghost use lib.ListN.{length};
-ghost use Prim.Native.Nat.{_≤_};
-ghost use Rattle.text.specs.Rows.{fields, settled, «separators-in»};
+ghost use Rattle.text.specs.Rows.{fields, settled};
 ghost use Rattle.line.specs.Lines.{«field-rows», report, reading};
 ghost use Rattle.line.specs.Reports.{saidIn};
 use crate::faults::ReadFault;
+use crate::offsets::field_count;
+use crate::reader::ActionField;
+use crate::reader::KindField;
 use crate::reader::Reader;
+use crate::reader::SideField;
 use text::Action;
 use text::Kind;
 use text::Names;
@@ -31,22 +34,8 @@ pub struct Report<'a> {
 // The most bytes of a line.
 pub const LONGEST_LINE: usize = 512;
 
-// A line has eleven fields, so ten separators.
-const SEPARATORS: u16 = 10;
-
-// How many separators there are.
-fn separators_of(line: &[u8]) -> u16
-    requires { ⌜ length (now line) ≤ 512 ⌝ }
-    ensures { λ r. ⌜ r ≡ separators-in (now (line .entry)) ⌝ }
-{
-    let mut n: u16 = 0;
-    for b in line {
-        if *b == b';' {
-            n += 1;
-        }
-    }
-    n
-}
+// How many fields a line has.
+const FIELDS: usize = 11;
 
 // The fields from the left: the first that lacks its form refuses the line.
 fn read_fields<'a>(line: &'a [u8]) -> Result<Report<'a>, ReadFault>
@@ -54,13 +43,13 @@ fn read_fields<'a>(line: &'a [u8]) -> Result<Report<'a>, ReadFault>
     ensures { λ r. ⌜ saidIn r ≡ settled field-rows (now (line .entry)) (report (fields (now (line .entry)))) ⌝ }
 {
     let mut reader = Reader::new(line);
-    let kind = reader.kind()?;
+    let kind = reader.value::<Kind>()?;
     let id = reader.id(1, 52)?;
     let contract = reader.id(0, 32)?;
     let venue = reader.venue()?;
     let participant = reader.code()?;
-    let side = reader.side()?;
-    let action = reader.action()?;
+    let side = reader.value::<Side>()?;
+    let action = reader.value::<Action>()?;
     let time = reader.time()?;
     let quantity = reader.quantity()?;
     let price = reader.price()?;
@@ -87,7 +76,7 @@ pub fn read_line<'a>(line: &'a [u8]) -> Result<Report<'a>, ReadFault>
     if line.len() < 1 || line.len() > LONGEST_LINE {
         return Err(ReadFault::Length);
     }
-    if separators_of(line) != SEPARATORS {
+    if field_count(line) != FIELDS {
         return Err(ReadFault::Fields);
     }
     read_fields(line)

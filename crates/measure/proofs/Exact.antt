@@ -24,7 +24,7 @@ use Rattle.life.specs.declared.life.State.the-variants.{Open, Cancelled}
 use Rattle.life.specs.Parts.{Key-parts, Life-parts}
 use Rattle.measure.specs.declared.sheet.Sheet.{Sheet}
 use Rattle.measure.specs.Group.{Group}
-use Rattle.measure.specs.Lives.{Pair, Lives, plain-pair, plain, Unique, Same}
+use Rattle.life.specs.Lives.{Pair, Lives, plain-pair, plain, Unique, Same}
 use Rattle.measure.specs.Totals.{while-open, share, total-of}
 use Rattle.measure.specs.Positions.{traded, brought, true-position, Within}
 use Rattle.measure.specs.Sheets.{cell, position-of, no-sheet, added, residue, sheet-weight}

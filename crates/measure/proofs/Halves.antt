@@ -5,7 +5,7 @@ use Rattle.life.specs.declared.life.State.{State}
 use Rattle.life.specs.declared.life.State.the-variants.{Open, Cancelled}
 use Rattle.life.specs.Parts.{Key-parts, Life-parts}
 use Rattle.measure.specs.Boths.{both, both-joined, both-weight}
-use Rattle.measure.specs.Lives.{Lives}
+use Rattle.life.specs.Lives.{Lives}
 use Rattle.measure.specs.Totals.{while-open, share, total-of}
 
 module _ {A B : Type 0} (p : A) (f : A → A → A) (v : Key-parts → Life-parts → A) (q : B) (g : B → B → B) (w : Key-parts → Life-parts → B) where

@@ -1,5 +1,3 @@
-pub mod Keys
-pub mod Lookups
 pub mod Sums
 pub mod Halves
 pub mod Cells

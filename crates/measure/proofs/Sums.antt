@@ -14,10 +14,11 @@ use Rattle.life.specs.declared.key.Key.{Key}
 use Rattle.life.specs.declared.life.Life.{Life}
 use Rattle.life.specs.Parts.{Key-parts, Life-parts, key-parts, life-parts}
 use Rattle.measure.specs.Group.{Group}
-use Rattle.measure.specs.Lives.{Pair, Lives, plain-pair, plain, same-key, look, Unique, Same, altered, erase}
+use Rattle.life.specs.Keys.{same-key}
+use Rattle.life.specs.Lives.{Pair, Lives, plain-pair, plain, look, Unique, Same, altered, erase}
 use Rattle.measure.specs.Totals.{share, total-of}
-use Rattle.measure.proofs.Keys.{key-same, key-eq}
-use Rattle.measure.proofs.Lookups.{unique-parts, unique-erase, same-rest}
+use Rattle.life.proofs.KeyOrder.{parts-same, parts-eq}
+use Rattle.life.proofs.Lives.{unique-parts, unique-erase, same-rest}
 
 none-some : (l : Life-parts) → None ≡ Some l → ⊥
 none-some l e = let z : _≡_ {A = ℕ} 0 1 = cc in omega arith
@@ -91,7 +92,7 @@ module _ {V : Type 0} {nil : V} {joined : V → V → V} {inverse : V → V} (G 
         ≡ joined (value k (mapped f (cond b (Some (p .1)) (look k ps)))) (total (cond b (erase k ps) (p ∷ erase k ps))) in
         ⊎-elim
         (λ e.
-        let here : k ≡ p .0 = key-eq k (p .0) e in
+        let here : k ≡ p .0 = parts-eq k (p .0) e in
         let gone : look k ps ≡ None = ap (λ x. look x ps) here ∙ once .0 in
         subst Goal (sym e)
         (ap (λ x. joined (share nil weight x (f (p .1))) (total (altered k f ps))) (sym here)
@@ -124,30 +125,12 @@ module _ {V : Type 0} {nil : V} {joined : V → V → V} {inverse : V → V} (G 
         ∙ ap (λ o. joined (value k o) (total (erase k ps))) (ap Some (sym is) ∙ ap (mapped f) (sym e))
         ∙ sym (total-altered k f ps u)
 
-    -- ---- What a sum becomes, that was a total
-
-    module _ (t t′ : V) (k : Key-parts) where
-      pub came : (l : Life-parts) → t′ ≡ joined t (share nil weight k l) →
-          (ps qs : Lives) → t ≡ total (ps ++ qs) → t′ ≡ total (ps ++ (k, l) ∷ qs)
-      came l is ps qs e = is ∙ ap (λ s. joined s (share nil weight k l)) e ∙ total-come ps k l qs
-
-      pub went : (l : Life-parts) → t′ ≡ joined t (inverse (share nil weight k l)) →
-          (ps : Lives) → Unique ps → look k ps ≡ Some l → t ≡ total ps → t′ ≡ total (erase k ps)
-      went l is ps u found e = is ∙ ap (λ s. joined s (inverse (share nil weight k l))) e ∙ total-go k l ps u found
-
-      pub changed : (old new : Life-parts) → t′ ≡ joined (joined t (inverse (share nil weight k old))) (share nil weight k new) →
-          (ps : Lives) (f : Life-parts → Life-parts) → Unique ps → look k ps ≡ Some old → f old ≡ new → t ≡ total ps → t′ ≡ total (altered k f ps)
-      changed old new is ps f u found so e =
-          is
-          ∙ ap (λ s. joined (joined s (inverse (share nil weight k old))) (share nil weight k new)) e
-          ∙ total-replace k old new f ps u found so
-
     -- the order of the list does not count
     pub total-same : (ps qs : Lives) → Unique ps → Unique qs → Same ps qs → total ps ≡ total qs
     total-same [] [] u w h = refl
-    total-same [] (q ∷ qs) u w h = absurd (none-some (q .1) (h (q .0) ∙ cond-true _ _ _ (key-same (q .0))))
+    total-same [] (q ∷ qs) u w h = absurd (none-some (q .1) (h (q .0) ∙ cond-true _ _ _ (parts-same (q .0))))
     total-same (p ∷ ps) qs u w h =
-        let there : look (p .0) qs ≡ Some (p .1) = sym (h (p .0)) ∙ cond-true _ _ _ (key-same (p .0)) in
+        let there : look (p .0) qs ≡ Some (p .1) = sym (h (p .0)) ∙ cond-true _ _ _ (parts-same (p .0)) in
         let rest = total-same ps (erase (p .0) qs) (unique-parts p ps u .1) (unique-erase (p .0) qs w) (same-rest p ps qs u h) in
         ap (joined (share nil weight (p .0) (p .1))) rest
         ∙ sym (total-split (p .0) qs w ∙ ap (λ o. joined (value (p .0) o) (total (erase (p .0) qs))) there)

@@ -1,5 +1,4 @@
 pub mod Group
-pub mod Lives
 pub mod Totals
 pub mod Positions
 pub mod Sheets

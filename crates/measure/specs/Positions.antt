@@ -8,7 +8,7 @@ use Rattle.text.specs.declared.words.Kind.the-variants.{Order, Trade}
 use Rattle.text.specs.declared.words.Side.{Side}
 use Rattle.text.specs.declared.words.Side.the-variants.{Buy, Sell}
 use Rattle.life.specs.Parts.{Key-parts, Life-parts}
-use Rattle.measure.specs.Lives.{Pair, Lives}
+use Rattle.life.specs.Lives.{Pair, Lives}
 use Rattle.measure.specs.Totals.{total-of}
 
 -- a trade's quantity, plus for a buy and minus for a sell; nothing for an order

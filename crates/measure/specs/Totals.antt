@@ -3,7 +3,7 @@ use mathlib.Core.List.{List, [], _∷_}
 use Rattle.life.specs.declared.life.State.{State}
 use Rattle.life.specs.declared.life.State.the-variants.{Open, Cancelled}
 use Rattle.life.specs.Parts.{Key-parts, Life-parts}
-use Rattle.measure.specs.Lives.{Lives}
+use Rattle.life.specs.Lives.{Lives}
 
 -- the weight w while the life is open, and nothing after
 abbrev pub while-open : {V : Type 0} → V → State → V → V

@@ -2,7 +2,7 @@
 ghost use mathlib.Core.Path.{_≡_};
 ghost use Rattle.measure.specs.Boths.{both, both-joined, both-inverse, both-weight};
 ghost use Rattle.measure.specs.Laws.{both-group};
-ghost use Rattle.measure.specs.Lives.{Lives};
+ghost use Rattle.life.specs.Lives.{Lives};
 ghost use Rattle.measure.specs.Totals.{total-of};
 use crate::measure::Measure;
 use life::Key;

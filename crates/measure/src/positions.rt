@@ -7,7 +7,7 @@ ghost use Rattle.std.specs.shelf.Lists.{All};
 ghost use Rattle.life.specs.declared.key.Key.{Key};
 ghost use Rattle.life.specs.declared.life.Life.{Life};
 ghost use Rattle.measure.specs.Laws.{sheet-group};
-ghost use Rattle.measure.specs.Lives.{Lives, plain};
+ghost use Rattle.life.specs.Lives.{Lives, plain};
 ghost use Rattle.measure.specs.Positions.{Within, traded, true-position};
 ghost use Rattle.measure.specs.Sheets.{position-of, no-sheet, added, negated, residue, sheet-weight, one-cell};
 ghost use Rattle.measure.specs.Totals.{total-of};

@@ -3,7 +3,7 @@ ghost use mathlib.Core.Path.{_≡_};
 ghost use mathlib.Core.List.{_∷_, _++_};
 ghost use Rattle.std.specs.declared.option.Option.the-variants.{Some};
 ghost use Rattle.life.specs.Parts.{Life-parts, key-parts, life-parts};
-ghost use Rattle.measure.specs.Lives.{Lives, plain, look, Unique, Same, altered, erase};
+ghost use Rattle.life.specs.Lives.{Lives, plain, look, Unique, Same, altered, erase};
 ghost use Rattle.measure.specs.Totals.{share, total-of};
 use crate::measure::Measure;
 use life::Key;

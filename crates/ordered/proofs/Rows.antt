@@ -1,18 +1,17 @@
 -- What stands where in a table, and what that says of the pairs.
 use mathlib.Core.Path.{_≡_, refl, sym, ap, subst, _∙_}
 use mathlib.Core.Logic.{_⊎_, inl, inr, ⊎-elim, ∥∥₁-elim}
-use mathlib.Core.Bool.{Bool, true, false, cond, true≢false}
-use mathlib.Core.List.{List, [], _∷_}
+use mathlib.Core.Bool.{cond, true≢false}
+use mathlib.Core.List.{List, _∷_}
 use std.HLevel.{Π-prop}
 use native.Mathlib.Bridge.{le-prop}
 use base.Stored.{coded-set, codedBool}
 use Prim.Native.Nat.{ℕ, zero, suc, _+_, _-_, _≤_, _<_}
 use native.Mathlib.Omega.{arith}
-use lib.Dec.{leb, ltb}
+use lib.Dec.{leb}
 use lib.ListN.{length, getD, set}
-use Rattle.std.proofs.shelf.Lists.{getD-set-same, getD-set-other, getD-read, getD-default, length-set}
-use Rattle.std.proofs.shelf.Tests.{cases-order, cases-eq, cases-lt, cases-bool, cond-true, cond-false, cond-both, le-ltb, lt-ltb}
-use Rattle.std.specs.Options.{isSome}
+use Rattle.std.proofs.shelf.Lists.{getD-set-same, getD-set-other, getD-read, getD-default}
+use Rattle.std.proofs.shelf.Tests.{cases-order, cases-eq, cases-bool, cond-true, cond-false, cond-both}
 use Rattle.std.specs.Orderings.{isLt}
 use Rattle.std.specs.declared.cmp.Ordering.the-variants.{Less, Equal, Greater}
 use Rattle.std.specs.declared.option.Option.{Option}
@@ -20,11 +19,11 @@ use Rattle.std.specs.declared.option.Option.the-variants.{Some, None}
 use Rattle.life.specs.declared.key.Key.{Key}
 use Rattle.life.specs.declared.life.Life.{Life}
 use Rattle.life.specs.Keys.{alike, rank, Before}
-use Rattle.life.specs.Pairs.{look, erase, distinct, Unique, Same}
+use Rattle.life.specs.Pairs.{look, erase, Unique, Same}
 use Rattle.life.proofs.KeyOrder.{strict, key-eq, key-same}
 use Rattle.life.proofs.Lookups.{look-erase, look-put, unique-from}
 use Rattle.ordered.specs.declared.entry.Entry.{Entry}
-use Rattle.ordered.specs.Table.{at, room-of, pairs-of, Sound, Inserted, Deleted}
+use Rattle.ordered.specs.Table.{at, room-of, pairs-of, Sound, Held}
 
 sound-prop : {s : List Entry} {c : ℕ} → IsProp (Sound s c)
 sound-prop p q = λ i. record {
@@ -85,17 +84,17 @@ pub lower : (s : List Entry) (c i : ℕ) (k : Key) (d : Entry) → Sound s c →
 lower s c i k d h l e m w =
     let here : Before (at s i .key) k = ap isLt (ap (λ x. rank x k) (read-key s c i d h l) ∙ sym e) in
     ⊎-elim
-      (λ q. subst (λ n. Before (at s n .key) k) (sym q) here)
-      (λ n. strict .onward (at s m .key) (at s i .key) k (h .rising m i (omega arith) l) here)
-      (cases-eq m i)
+    (λ q. subst (λ n. Before (at s n .key) k) (sym q) here)
+    (λ n. strict .onward (at s m .key) (at s i .key) k (h .rising m i (omega arith) l) here)
+    (cases-eq m i)
 
 pub upper : (s : List Entry) (c i : ℕ) (k : Key) (d : Entry) → Sound s c → i < c → Greater ≡ rank (getD s i d .key) k → (m : ℕ) → i ≤ m → m < c → Before k (at s m .key)
 upper s c i k d h l e m g w =
     let here : Before k (at s i .key) = strict .greater-is-after (at s i .key) k (ap (λ x. rank x k) (read-key s c i d h l) ∙ sym e) in
     ⊎-elim
-      (λ q. subst (λ n. Before k (at s n .key)) (sym q) here)
-      (λ n. strict .onward k (at s i .key) (at s m .key) here (h .rising i m (omega arith) w))
-      (cases-eq m i)
+    (λ q. subst (λ n. Before k (at s n .key)) (sym q) here)
+    (λ n. strict .onward k (at s i .key) (at s m .key) here (h .rising i m (omega arith) w))
+    (cases-eq m i)
 
 pub hit : (s : List Entry) (c i : ℕ) (k : Key) (d : Entry) → Sound s c → i < c → Equal ≡ rank (getD s i d .key) k → at s i .key ≡ k
 hit s c i k d h l e = strict .equal-is-same (at s i .key) k (ap (λ x. rank x k) (read-key s c i d h l) ∙ sym e)
@@ -106,23 +105,23 @@ pub look-none : (s : List Entry) (k : Key) (c : ℕ) → ((m : ℕ) → m < c �
 look-none s k zero h = refl
 look-none s k (suc c) h =
     ⊎-elim
-      (λ e. absurd (h c (omega arith) (sym (key-eq _ _ e))))
-      (λ e. cond-false _ _ _ e ∙ look-none s k c (λ m l. h m (omega arith)))
-      (cases-bool (alike k (at s c .key)))
+    (λ e. absurd (h c (omega arith) (sym (key-eq _ _ e))))
+    (λ e. cond-false _ _ _ e ∙ look-none s k c (λ m l. h m (omega arith)))
+    (cases-bool (alike k (at s c .key)))
 
 look-at : (s : List Entry) (k : Key) (c i : ℕ) → ((i j : ℕ) → i < j → j < c → at s i .key ≡ at s j .key → ⊥) → i < c → at s i .key ≡ k
-  → look k (pairs-of s c) ≡ Some (at s i .life)
+    → look k (pairs-of s c) ≡ Some (at s i .life)
 look-at s k zero i far l e = absurd (omega arith)
 look-at s k (suc c) i far l e =
     ⊎-elim
-      (λ q. cond-true _ _ _ (ap (alike k) (ap (λ n. at s n .key) (sym q) ∙ e) ∙ key-same k) ∙ ap (λ n. Some (at s n .life)) (sym q))
-      (λ q.
-        let less : i < c = omega arith in
-        ⊎-elim
-          (λ t. absurd (far i c less (omega arith) (e ∙ key-eq _ _ t)))
-          (λ t. cond-false _ _ _ t ∙ look-at s k c i (λ x y o r. far x y o (omega arith)) less e)
-          (cases-bool (alike k (at s c .key))))
-      (cases-eq i c)
+    (λ q. cond-true _ _ _ (ap (alike k) (ap (λ n. at s n .key) (sym q) ∙ e) ∙ key-same k) ∙ ap (λ n. Some (at s n .life)) (sym q))
+    (λ q.
+    let less : i < c = omega arith in
+    ⊎-elim
+    (λ t. absurd (far i c less (omega arith) (e ∙ key-eq _ _ t)))
+    (λ t. cond-false _ _ _ t ∙ look-at s k c i (λ x y o r. far x y o (omega arith)) less e)
+    (cases-bool (alike k (at s c .key))))
+    (cases-eq i c)
 
 pub look-some : (s : List Entry) (k : Key) (c i : ℕ) → Sound s c → i < c → at s i .key ≡ k → look k (pairs-of s c) ≡ Some (at s i .life)
 look-some s k c i h l e = look-at s k c i (apart s c h) l e
@@ -131,15 +130,15 @@ found : (s : List Entry) (k : Key) (c : ℕ) → ((i : ℕ) × (i < c) × (at s 
 found s k zero = inr (λ m l e. omega arith)
 found s k (suc c) =
     ⊎-elim
-      (λ e. inl (c, omega arith, sym (key-eq _ _ e)))
-      (λ n. ⊎-elim
-        (λ f. inl (f .0, omega (arith, f .1), f .2))
-        (λ none. inr (λ m l e. ⊎-elim
-          (λ q. true≢false (sym (ap (alike k) (ap (λ n. at s n .key) (sym q) ∙ e) ∙ key-same k) ∙ n))
-          (λ q. none m (omega arith) e)
-          (cases-eq m c)))
-        (found s k c))
-      (cases-bool (alike k (at s c .key)))
+    (λ e. inl (c, omega arith, sym (key-eq _ _ e)))
+    (λ n. ⊎-elim
+    (λ f. inl (f .0, omega (arith, f .1), f .2))
+    (λ none. inr (λ m l e. ⊎-elim
+    (λ q. true≢false (sym (ap (alike k) (ap (λ n. at s n .key) (sym q) ∙ e) ∙ key-same k) ∙ n))
+    (λ q. none m (omega arith) e)
+    (cases-eq m c)))
+    (found s k c))
+    (cases-bool (alike k (at s c .key)))
 
 pub pairs-length : (s : List Entry) (c : ℕ) → length (pairs-of s c) ≡ c
 pairs-length s zero = refl
@@ -157,6 +156,9 @@ sound-unique s c h = pairs-unique s c (apart s c h)
 pub sound-fits : (s : List Entry) (c : ℕ) → Sound s c → length (pairs-of s c) ≤ room-of s
 sound-fits s c h = subst (λ n. n ≤ room-of s) (sym (pairs-length s c)) (h .fits)
 
+pub held : {s : List Entry} {c : ℕ} → Sound s c → Held s c
+held {s} {c} h = record { in-order = ∣ h ∣₁; apart = sound-unique s c h; within = sound-fits s c h }
+
 pub none-sound : (s : List Entry) → Sound s 0
 none-sound s = record { fits = omega arith; rising = λ i j l h. absurd (omega arith) }
 
@@ -168,23 +170,23 @@ module _ (s : List Entry) (c : ℕ) (t : List Entry) (d : ℕ) (k : Key) (old : 
   elsewhere : (q : Key) → (q ≡ k → ⊥) → look q (pairs-of t d) ≡ look q (pairs-of s c)
   elsewhere q n =
       ⊎-elim
-        (λ f.
-          let g = go (f .0) (f .1) (λ e. n (sym (f .2) ∙ e)) in
-          look-some t q d (g .0) new (g .1) (ap (λ (e : Entry). e .key) (g .2) ∙ f .2)
-          ∙ ap (λ (e : Entry). Some (e .life)) (g .2) ∙ sym (look-some s q c (f .0) old (f .1) (f .2)))
-        (λ none.
-          look-none t q d (λ m l e.
-            let b = back m l (λ f. n (sym e ∙ f)) in
-            none (b .0) (b .1) (sym (ap (λ (e : Entry). e .key) (b .2)) ∙ e))
-          ∙ sym (look-none s q c none))
-        (found s q c)
+      (λ f.
+      let g = go (f .0) (f .1) (λ e. n (sym (f .2) ∙ e)) in
+      look-some t q d (g .0) new (g .1) (ap (λ (e : Entry). e .key) (g .2) ∙ f .2)
+      ∙ ap (λ (e : Entry). Some (e .life)) (g .2) ∙ sym (look-some s q c (f .0) old (f .1) (f .2)))
+      (λ none.
+      look-none t q d (λ m l e.
+      let b = back m l (λ f. n (sym e ∙ f)) in
+      none (b .0) (b .1) (sym (ap (λ (e : Entry). e .key) (b .2)) ∙ e))
+      ∙ sym (look-none s q c none))
+      (found s q c)
 
   becomes : (o : Option Life) → look k (pairs-of t d) ≡ o → (q : Key) → look q (pairs-of t d) ≡ cond (alike q k) o (look q (pairs-of s c))
   becomes o h q =
       ⊎-elim
-        (λ e. ap (λ x. look x (pairs-of t d)) (key-eq q k e) ∙ h ∙ sym (cond-true _ _ _ e))
-        (λ e. elsewhere q (λ f. true≢false (sym (ap (λ x. alike x k) f ∙ key-same k) ∙ e)) ∙ sym (cond-false _ _ _ e))
-        (cases-bool (alike q k))
+      (λ e. ap (λ x. look x (pairs-of t d)) (key-eq q k e) ∙ h ∙ sym (cond-true _ _ _ e))
+      (λ e. elsewhere q (λ f. true≢false (sym (ap (λ x. alike x k) f ∙ key-same k) ∙ e)) ∙ sym (cond-false _ _ _ e))
+      (cases-bool (alike q k))
 
   pub puts-in : (l : Life) → look k (pairs-of t d) ≡ Some l → Same (pairs-of t d) ((k, l) ∷ erase k (pairs-of s c))
   puts-in l h q = becomes (Some l) h q ∙ sym (look-put q k l (pairs-of s c))

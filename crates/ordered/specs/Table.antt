@@ -14,7 +14,7 @@ use Rattle.life.specs.declared.life.Life.{Life}
 use Rattle.life.specs.declared.store.NoRoom.{NoRoom}
 use Rattle.life.specs.Keys.{Before}
 use Rattle.life.specs.Blank.{no-key, no-life}
-use Rattle.life.specs.Pairs.{look, erase, added, admits, Same}
+use Rattle.life.specs.Pairs.{erase, added, admits, distinct, Same}
 use Rattle.ordered.specs.declared.entry.Entry.{Entry}
 
 -- the entry at a place
@@ -59,11 +59,18 @@ pub record Deleted (s t : List Entry) (c i : ℕ) : Type 0 where
   pub high : (m : ℕ) → i ≤ m → m + 1 < c → at t m ≡ at s (m + 1)
   pub rest : (m : ℕ) → c ≤ m + 1 → at t m ≡ at s m
 
+-- what holds of a store's table: it is sound, no key stands twice, and no more are held than can be
+pub record Held (s : List Entry) (c : ℕ) : Type 0 where
+  pub in-order : ∥ Sound s c ∥₁
+  pub apart : distinct (pairs-of s c) ≡ true
+  pub within : length (pairs-of s c) ≤ room-of s
+
 -- what `put` does to a table s with c entries in use, which is then t with d: it keeps its length and its order, and a new key
 -- that finds no room alters nothing; the entries that are not in use stay
 pub record Puts (s : List Entry) (c : ℕ) (t : List Entry) (d : ℕ) (k : Key) (l : Life) (r : Result (Unit {0}) NoRoom) : Type 0 where
   pub size : length t ≡ length s
-  pub sound : Sound t d
+  pub held : Held t d
+  pub room : room-of t ≡ room-of s
   pub fits : isOk r ≡ admits (room-of s) k (pairs-of s c)
   pub holds : Same (pairs-of t d) (added (isOk r) k l (pairs-of s c))
   pub refused : isOk r ≡ false → (t ≡ s) × (d ≡ c)
@@ -72,7 +79,8 @@ pub record Puts (s : List Entry) (c : ℕ) (t : List Entry) (d : ℕ) (k : Key) 
 -- what `remove` does; a table without room is not written
 pub record Drops (s : List Entry) (c : ℕ) (t : List Entry) (d : ℕ) (k : Key) : Type 0 where
   pub size : length t ≡ length s
-  pub sound : Sound t d
+  pub held : Held t d
+  pub room : room-of t ≡ room-of s
   pub holds : Same (pairs-of t d) (erase k (pairs-of s c))
   pub idle : room-of s ≡ 0 → (t ≡ s) × (d ≡ c)
   pub rest : (m : ℕ) → d ≤ m → at t m ≡ at s m

@@ -2,6 +2,7 @@
 mod entry;
 mod ordered;
 mod table;
+
 pub use entry::Entry;
 pub use ordered::Ordered;
 pub use ordered::OrderedStore;

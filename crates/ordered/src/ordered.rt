@@ -43,7 +43,8 @@ impl<'t> Ordered<'t> {
         ensures none { λ r. ⌜ pairs-in (now (r .table .entries)) (r .table .count) ≡ [] ⌝ }
         ensures same { λ r. ⌜ now (r .table .entries) ≡ now (entries .entry) ⌝ }
     {
-        let table = Table { entries, count: 0 };
+        let mut table = Table { entries, count: 0 };
+        table.empty();
         Ordered { table }
     }
 }

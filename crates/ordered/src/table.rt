@@ -1,9 +1,10 @@
 // A table of entries in rising order of their keys.
 ghost use mathlib.Core.Path.{_≡_};
 ghost use Prim.Native.Nat.{ℕ, _+_, _-_, _<_, _≤_};
+ghost use lib.Dec.{leb};
 ghost use lib.ListN.{length};
 ghost use Rattle.life.specs.Pairs.{look};
-ghost use Rattle.ordered.specs.Table.{«room-of» as room-in, «pairs-of» as pairs-in, Sound, Sought, Inserted, Deleted, Puts, Drops};
+ghost use Rattle.ordered.specs.Table.{«room-of» as room-in, «pairs-of» as pairs-in, Sound, Held, Sought, Inserted, Deleted, Puts, Drops};
 use crate::entry::Entry;
 use life::Key;
 use life::Life;
@@ -76,15 +77,22 @@ impl<'t> Table<'t> {
 
     // Where the key stands, or else where it belongs.
     fn place_of(&self, key: &Key) -> Result<usize, usize>
-        requires { ⌜ Sound (now (now self .entries)) (now self .count) ⌝ }
+        requires { ⌜ ∥ Sound (now (now self .entries)) (now self .count) ∥₁ ⌝ }
         ensures { λ r. ⌜ Sought (now (now (self .entry) .entries)) (now (self .entry) .count) (now (key .entry)) r ⌝ }
     {
         seek(self.entries, self.count, key)
     }
 
+    // Whether no entry is free.
+    fn is_full(&self) -> bool
+        ensures { λ r. ⌜ r ≡ leb (room-in (now (now (self .entry) .entries))) (now (self .entry) .count) ⌝ }
+    {
+        self.count >= self.room()
+    }
+
     // The life at the key, if one is held.
     pub(crate) fn find(&self, key: &Key) -> Option<Life>
-        requires { ⌜ Sound (now (now self .entries)) (now self .count) ⌝ }
+        requires { ⌜ ∥ Sound (now (now self .entries)) (now self .count) ∥₁ ⌝ }
         ensures { λ r. ⌜ r ≡ look (now (key .entry)) (pairs-in (now (now (self .entry) .entries)) (now (self .entry) .count)) ⌝ }
     {
         match self.place_of(key) {
@@ -95,7 +103,7 @@ impl<'t> Table<'t> {
 
     // Puts the life at the key. Refused where the key is new and the table is full.
     pub(crate) fn put(&mut self, key: &Key, life: Life) -> Result<(), NoRoom>
-        requires { ⌜ Sound (now (now self .entries)) (now self .count) ⌝ }
+        requires { ⌜ ∥ Sound (now (now self .entries)) (now self .count) ∥₁ ⌝ }
         ensures { λ r. ⌜ Puts (now (now (self .entry) .entries)) (now (self .entry) .count) (now (now (self .exit) .entries)) (now (self .exit) .count) (now (key .entry)) life r ⌝ }
     {
         let count = self.count;
@@ -105,7 +113,7 @@ impl<'t> Table<'t> {
                 Ok(())
             }
             Err(i) => {
-                if count >= self.room() {
+                if self.is_full() {
                     return Err(NoRoom);
                 }
                 insert(self.entries, count, i, Entry { key: *key, life });
@@ -117,7 +125,7 @@ impl<'t> Table<'t> {
 
     // Takes away the entry of the key, if there is one.
     pub(crate) fn remove(&mut self, key: &Key)
-        requires { ⌜ Sound (now (now self .entries)) (now self .count) ⌝ }
+        requires { ⌜ ∥ Sound (now (now self .entries)) (now self .count) ∥₁ ⌝ }
         ensures { λ _. ⌜ Drops (now (now (self .entry) .entries)) (now (self .entry) .count) (now (now (self .exit) .entries)) (now (self .exit) .count) (now (key .entry)) ⌝ }
     {
         let count = self.count;
@@ -133,6 +141,7 @@ impl<'t> Table<'t> {
     // Takes every entry away.
     pub(crate) fn empty(&mut self)
         ensures count { λ _. ⌜ now (self .exit) .count ≡ 0 ⌝ }
+        ensures held { λ _. ⌜ Held (now (now (self .exit) .entries)) (now (self .exit) .count) ⌝ }
         ensures same { λ _. ⌜ now (now (self .exit) .entries) ≡ now (now (self .entry) .entries) ⌝ }
     {
         self.count = 0;

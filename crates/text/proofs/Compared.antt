@@ -34,16 +34,16 @@ zeros-more n xs i x l h =
 pub text-same : {n : ℕ} (t u : Text n) → textOf t ≡ textOf u → t ≡ u
 text-same {n} t u e =
     let len : t .len ≡ u .len =
-      sym (length-take-le (t .len) (t .bytes) (omega arith)) ∙ ap length e ∙ length-take-le (u .len) (u .bytes) (omega arith) in
+    sym (length-take-le (t .len) (t .bytes) (omega arith)) ∙ ap length e ∙ length-take-le (u .len) (u .bytes) (omega arith) in
     let bytes : t .bytes ≡ u .bytes =
-      sym (take-append-drop (t .len) (t .bytes))
-      ∙ (λ i. e i ++ (t .ok .2 ∙ ap (λ m. replicate (n - m) 0) len ∙ sym (u .ok .2)) i)
-      ∙ take-append-drop (u .len) (u .bytes) in
+    sym (take-append-drop (t .len) (t .bytes))
+    ∙ (λ i. e i ++ (t .ok .2 ∙ ap (λ m. replicate (n - m) 0) len ∙ sym (u .ok .2)) i)
+    ∙ take-append-drop (u .len) (u .bytes) in
     λ i. record {
       bytes = bytes i;
       len = len i;
       ok = isProp→PathP (λ j. (len j ≤ n) × (length (bytes j) ≡ n) × (drop (len j) (bytes j) ≡ replicate (n - len j) 0))
-        (λ j. ×₃-prop le-prop (coded-set codedℕ _ _) (coded-set (codedList codedℕ) _ _)) (t .ok) (u .ok) i;
+          (λ j. ×₃-prop le-prop (coded-set codedℕ _ _) (coded-set (codedList codedℕ) _ _)) (t .ok) (u .ok) i;
     }
 
 -- texts of two lengths differ
@@ -55,8 +55,8 @@ never-longer xs ys n =
 pub same-with-zeros : {n : ℕ} (t u : Text n) (r : Bool) → t .len ≡ u .len → r ≡ sameBytes (t .bytes) (u .bytes) → r ≡ sameBytes (textOf t) (textOf u)
 same-with-zeros t u r l e =
     e ∙ same-from-decides _ _
-        (decides-like _ (λ p i. take (l i) (p i)) (λ q. ap (λ x. x .bytes) (text-same t u q)) (sameBytes-decides (t .bytes) (u .bytes)))
-        (sameBytes-decides (textOf t) (textOf u))
+    (decides-like _ (λ p i. take (l i) (p i)) (λ q. ap (λ x. x .bytes) (text-same t u q)) (sameBytes-decides (t .bytes) (u .bytes)))
+    (sameBytes-decides (textOf t) (textOf u))
 
 pub length-differs : {n : ℕ} (t u : Text n) → (t .len ≡ u .len → ⊥) → false ≡ sameBytes (textOf t) (textOf u)
 length-differs t u d =

@@ -28,8 +28,8 @@ dotted (b ∷ bs) h =
     ⊎-elim
     (λ (y : eqb b 46 ≡ true). let d : asciiDigit b ≡ false = grind (arith, tells) in ap (λ t. t && every asciiDigit bs) d)
     (λ (n : eqb b 46 ≡ false).
-        let e = dotted bs (sym (within-cons 46 b bs n) ∙ h) in
-        ap (λ t. asciiDigit b && t) e ∙ and-false (asciiDigit b))
+    let e = dotted bs (sym (within-cons 46 b bs n) ∙ h) in
+    ap (λ t. asciiDigit b && t) e ∙ and-false (asciiDigit b))
     (cases-bool (eqb b 46))
   where
     and-false : (t : Bool) → t && false ≡ false
@@ -65,8 +65,8 @@ two : (most : ℕ) (w p : Bytes) → decimal-of most (w ∷ pieces 46 p) ≡ in-
 two most w p =
     ⊎-elim
     (λ (y : ltb (span-to 46 p) (length p) ≡ true).
-        ap (λ ts. decimal-of most (w ∷ ts)) (parted p y ∙ ap (λ ts. front-to 46 p ∷ ts) (first-after 46 (drop (span-to 46 p + 1) p)))
-        ∙ sym (ap (λ o. then (digits-form most w) (λ n. then o (λ m. Some (n * 100_000 + m * 10 ^ (5 - length p))))) (no-digits 5 p (dotted p y)) ∙ then-none (digits-form most w)))
+    ap (λ ts. decimal-of most (w ∷ ts)) (parted p y ∙ ap (λ ts. front-to 46 p ∷ ts) (first-after 46 (drop (span-to 46 p + 1) p)))
+    ∙ sym (ap (λ o. then (digits-form most w) (λ n. then o (λ m. Some (n * 100_000 + m * 10 ^ (5 - length p))))) (no-digits 5 p (dotted p y)) ∙ then-none (digits-form most w)))
     (λ (n : ltb (span-to 46 p) (length p) ≡ false). ap (λ ts. decimal-of most (w ∷ ts)) (alone p n))
     (cases-bool (ltb (span-to 46 p) (length p)))
 
@@ -97,10 +97,10 @@ module _ (most limit w : ℕ) (s : Bytes) (e : w ≡ span-to 46 s) where
       let f : digits-form most (front-to 46 s) ≡ None = ap (digits-form most) (sym the-front) ∙ sym d in
       ⊎-elim
       (λ (y : ltb (span-to 46 s) (length s) ≡ true).
-          sym (with-part most limit s (grind (arith, tells)) ∙ ap (λ o. then (then o (λ n. then (digits-form 5 (drop (span-to 46 s + 1) s)) (λ m. Some (n * 100_000 + m * 10 ^ (5 - length (drop (span-to 46 s + 1) s)))))) (at-most (limit * 100_000))) f))
+      sym (with-part most limit s (grind (arith, tells)) ∙ ap (λ o. then (then o (λ n. then (digits-form 5 (drop (span-to 46 s + 1) s)) (λ m. Some (n * 100_000 + m * 10 ^ (5 - length (drop (span-to 46 s + 1) s)))))) (at-most (limit * 100_000))) f))
       (λ (n : ltb (span-to 46 s) (length s) ≡ false).
-          let l : length s ≤ span-to 46 s = grind (arith, tells) in
-          sym (whole-only most limit s l ∙ ap (λ o. then (then o (λ n. Some (n * 100_000))) (at-most (limit * 100_000))) (ap (digits-form most) (sym (all-front (omega arith))) ∙ f)))
+      let l : length s ≤ span-to 46 s = grind (arith, tells) in
+      sym (whole-only most limit s l ∙ ap (λ o. then (then o (λ n. Some (n * 100_000))) (at-most (limit * 100_000))) (ap (digits-form most) (sym (all-front (omega arith))) ∙ f)))
       (cases-bool (ltb (span-to 46 s) (length s)))
 
   pub only-whole : (n : ℕ) → Some n ≡ digits-form most (take (w - 0) s) → w ≡ length s → at-most (limit * 100_000) (n * 100_000) ≡ decimal-form most limit s

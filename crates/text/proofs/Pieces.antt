@@ -42,12 +42,12 @@ module _ (sep : ℕ) where
   first-after (b ∷ bs) =
       ⊎-elim
       (λ (y : eqb b sep ≡ true).
-          ap (λ t. cond t ([] ∷ pieces sep bs) (onto-first b (pieces sep bs))) y
-          ∙ sym (λ i. take (span-here b bs y i) (b ∷ bs) ∷ after-at sep (within-here b bs y i) (pace-here b bs y i) (b ∷ bs)))
+      ap (λ t. cond t ([] ∷ pieces sep bs) (onto-first b (pieces sep bs))) y
+      ∙ sym (λ i. take (span-here b bs y i) (b ∷ bs) ∷ after-at sep (within-here b bs y i) (pace-here b bs y i) (b ∷ bs)))
       (λ (n : eqb b sep ≡ false).
-          ap (λ t. cond t ([] ∷ pieces sep bs) (onto-first b (pieces sep bs))) n
-          ∙ ap (onto-first b) (first-after bs)
-          ∙ sym (λ i. take (span-cons b bs n i) (b ∷ bs) ∷ after-at sep (within-cons b bs n i) (pace-cons b bs n i) (b ∷ bs)))
+      ap (λ t. cond t ([] ∷ pieces sep bs) (onto-first b (pieces sep bs))) n
+      ∙ ap (onto-first b) (first-after bs)
+      ∙ sym (λ i. take (span-cons b bs n i) (b ∷ bs) ∷ after-at sep (within-cons b bs n i) (pace-cons b bs n i) (b ∷ bs)))
       (cases-bool (eqb b sep))
 
 pub piece-and-more : (sep : ℕ) (s : List ℕ) → span-to sep s < length s → pieces sep s ≡ front-to sep s ∷ pieces sep (drop (span-to sep s + 1) s)

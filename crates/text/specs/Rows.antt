@@ -2,8 +2,6 @@
 use mathlib.Core.Bool.{Bool, not, cond}
 use mathlib.Core.List.{List, [], _∷_, map}
 use Prim.Native.Nat.{ℕ, suc}
-use lib.Dec.{eqb}
-use Rattle.std.specs.shelf.Lists.{countBy}
 use Rattle.std.specs.declared.option.Option.{Option}
 use Rattle.std.specs.declared.option.Option.the-variants.{Some, None}
 use Rattle.std.specs.declared.result.Result.{Result}
@@ -33,10 +31,6 @@ looking-at part = map (λ r. row (r .number) (r .for-field) (λ y. r .fits (part
 -- the fields of a text stand between its semicolons
 abbrev pub fields : Bytes → List Bytes
 fields bs = pieces 59 bs
-
--- how many semicolons a text has
-abbrev pub separators-in : Bytes → ℕ
-separators-in bs = countBy (λ b. eqb b 59) bs
 
 -- a row for each field, from field f on: the field lacks its form
 abbrev pub form-rows : (ℕ → ℕ) → ℕ → List (Bytes → Bool) → List (Row Bytes)

@@ -2,13 +2,13 @@
 ghost use mathlib.Core.Path.{_≡_};
 ghost use Rattle.text.specs.Bytes.{provided};
 ghost use Rattle.text.specs.Forms.{«id-form», «venue-form», «code-form»};
-use crate::classes::all_of;
 use crate::classes::Capitals;
 use crate::classes::CapitalsClass;
 use crate::classes::CapitalsOrDigits;
 use crate::classes::CapitalsOrDigitsClass;
 use crate::classes::IdBytes;
 use crate::classes::IdBytesClass;
+use crate::classes::all_of;
 
 // From `least` to `most` id bytes.
 pub fn is_id(text: &[u8], least: usize, most: usize) -> bool

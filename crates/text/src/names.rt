@@ -5,9 +5,9 @@ ghost use lib.ListN.{drop};
 ghost use Rattle.text.specs.Bytes.{pieces};
 ghost use Rattle.text.specs.Forms.{«a-name», «few-names», «names-form»};
 ghost use Rattle.text.specs.Listings.{listing, listingIn, «first-name», firstIn};
-use crate::classes::all_of;
 use crate::classes::IdBytes;
 use crate::classes::IdBytesClass;
+use crate::classes::all_of;
 use crate::cuts::span_to;
 
 // The names in a part of a line: none, or those that its commas separate.
@@ -18,6 +18,7 @@ pub enum Names<'a> {
 }
 
 const MOST_NAMES: usize = 8;
+
 const LONGEST_NAME: usize = 32;
 
 fn is_name(text: &[u8]) -> bool
@@ -53,7 +54,11 @@ impl<'a> Names<'a> {
         if text.len() == 0 {
             return Some(Names::None);
         }
-        if are_names(text) { Some(Names::Listed(text)) } else { None }
+        if are_names(text) {
+            Some(Names::Listed(text))
+        } else {
+            None
+        }
     }
 
     // The first name.

@@ -31,7 +31,11 @@ pub fn time_of(text: &[u8]) -> Option<u32>
     ensures { λ r. ⌜ r ≡ time-form (now (text .entry)) ⌝ }
 {
     let v = digits_of(text, 10)?;
-    if v <= 4294967295 { Some(v as u32) } else { None }
+    if v <= 4294967295 {
+        Some(v as u32)
+    } else {
+        None
+    }
 }
 
 // Ten to the power k.
@@ -70,7 +74,10 @@ fn decimal_of(text: &[u8], most: usize, limit: u64) -> Option<u64>
     }
     let rest = &text[w + 1..];
     let part = digits_of(rest, 5)?;
-    bounded(whole * 100000 + part * power(5 - rest.len()), limit * 100000)
+    bounded(
+        whole * 100000 + part * power(5 - rest.len()),
+        limit * 100000,
+    )
 }
 
 // A quantity in hundred-thousandths: a decimal of at most eight digits before the dot, at most ten million.

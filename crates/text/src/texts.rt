@@ -19,7 +19,10 @@ impl<const N: usize> Text<N> {
     pub fn empty() -> Text<N>
         ensures { λ r. ⌜ textOf r ≡ [] ⌝ }
     {
-        Text { bytes: [0; N], len: 0 }
+        Text {
+            bytes: [0; N],
+            len: 0,
+        }
     }
 
     // The bytes as a text, if they are few enough.
@@ -33,7 +36,10 @@ impl<const N: usize> Text<N> {
         for i in 0..s.len() {
             bytes[i] = s[i];
         }
-        Some(Text { bytes, len: s.len() as u8 })
+        Some(Text {
+            bytes,
+            len: s.len() as u8,
+        })
     }
 
     // Its bytes.

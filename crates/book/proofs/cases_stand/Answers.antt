@@ -1,7 +1,7 @@
 use mathlib.Core.Path.{refl}
 use Rattle.text.specs.Forms.{code-form, decimal-form}
 use Rattle.filing.specs.Names.{name-form}
-use Rattle.life.specs.Lives.{same-key}
+use Rattle.life.specs.Keys.{same-key}
 use Rattle.book.proofs.cases_stand.Needs as need
 
 pub returns : need.returns

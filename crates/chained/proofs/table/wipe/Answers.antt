@@ -1,4 +1,4 @@
-use mathlib.Core.Path.{_≡_, ap}
+use mathlib.Core.Path.{ap}
 use mathlib.Core.Logic.{⊎-elim}
 use native.Mathlib.Omega.{arith}
 use lib.ListN.{length}
@@ -15,9 +15,9 @@ returns c =
     record {
       size = c .loop-i .kept .slots;
       heads = λ m. ⊎-elim
-        (λ l. inv .0 m (omega arith))
-        (λ l. ap (λ (x : Slot). x .head) (getD-past t m none l))
-        (cases-lt m (length t));
+          (λ l. inv .0 m (omega arith))
+          (λ l. ap (λ (x : Slot). x .head) (getD-past t m none l))
+          (cases-lt m (length t));
       nexts = inv .1;
       keys = inv .2;
       lives = inv .3;

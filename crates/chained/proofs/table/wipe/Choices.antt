@@ -1,6 +1,5 @@
 use Prim.Native.Nat.{ℕ, _<_}
 use mathlib.Core.Path.{_≡_}
-use lib.ListN.{length}
 use Rattle.chained.specs.Table.{at}
 use Rattle.chained.proofs.table.wipe.Given as given
 

@@ -1,7 +1,7 @@
 use Prim.Native.Nat.{_≤_, _+_}
 use mathlib.Core.Path.{_≡_}
 use lib.ListN.{take}
-use Rattle.text.specs.Rows.{separators-in}
+use Rattle.line.proofs.Fields.{separators-in}
 use Rattle.line.proofs.offsets.field_count.Given as given
 
 abbrev pub Inv-loop-b : given.InvT-loop-b

@@ -27,12 +27,12 @@ At bs k p line = Reached bs field-rows (report (fields bs)) p line k (drop k fie
 at-kind : (c : need.After-new-reader) → At (c .args .line .now) 0 (c .new-reader .result .place) (now (c .new-reader .result .line))
 at-kind c = begun _ _ _ _ _ (c .new-reader .ensures .place) (c .new-reader .ensures .line)
 
-past-kind : (c : need.In-Continue-kind) → At (c .args .line .now) 1 (c .kind .last .self .place) (now (c .kind .last .self .line)) × Says as-read kind-form 0 (c .args .line .now) (c .in-Continue-kind .kind)
+past-kind : (c : need.In-Continue-kind) → At (c .args .line .now) 1 (c .value .last .self .place) (now (c .value .last .self .line)) × Says as-read kind-form 0 (c .args .line .now) (c .in-Continue-kind .kind)
 past-kind c =
     let p = c .in-Continue-kind .ensures tt in
     onward as-read kind-form 0 (omega arith) (omega (arith, c .pre)) (at-kind (need.at·In-Continue-kind c .After-new-reader)) (p .told) (p .place) (p .line)
 
-at-id : (c : need.In-Continue-kind) → At (c .args .line .now) 1 (c .kind .last .self .place) (now (c .kind .last .self .line))
+at-id : (c : need.In-Continue-kind) → At (c .args .line .now) 1 (c .value .last .self .place) (now (c .value .last .self .line))
 at-id c = past-kind c .0
 
 past-id : (c : need.In-Continue-id) → At (c .args .line .now) 2 (c .id .last .self .place) (now (c .id .last .self .line)) × Says as-word (id-form 1 52) 1 (c .args .line .now) (seen (c .in-Continue-id .id))
@@ -67,20 +67,20 @@ past-participant c =
 at-side : (c : need.In-Continue-participant) → At (c .args .line .now) 5 (c .code .last .self .place) (now (c .code .last .self .line))
 at-side c = past-participant c .0
 
-past-side : (c : need.In-Continue-side) → At (c .args .line .now) 6 (c .side .last .self .place) (now (c .side .last .self .line)) × Says as-read side-form 5 (c .args .line .now) (c .in-Continue-side .side)
+past-side : (c : need.In-Continue-side) → At (c .args .line .now) 6 (c .value-2 .last .self .place) (now (c .value-2 .last .self .line)) × Says as-read side-form 5 (c .args .line .now) (c .in-Continue-side .side)
 past-side c =
     let p = c .in-Continue-side .ensures tt in
     onward as-read side-form 5 (omega arith) (omega (arith, c .pre)) (at-side (need.at·In-Continue-side c .In-Continue-participant)) (p .told) (p .place) (p .line)
 
-at-action : (c : need.In-Continue-side) → At (c .args .line .now) 6 (c .side .last .self .place) (now (c .side .last .self .line))
+at-action : (c : need.In-Continue-side) → At (c .args .line .now) 6 (c .value-2 .last .self .place) (now (c .value-2 .last .self .line))
 at-action c = past-side c .0
 
-past-action : (c : need.In-Continue-action) → At (c .args .line .now) 7 (c .action .last .self .place) (now (c .action .last .self .line)) × Says as-read action-form 6 (c .args .line .now) (c .in-Continue-action .action)
+past-action : (c : need.In-Continue-action) → At (c .args .line .now) 7 (c .value-3 .last .self .place) (now (c .value-3 .last .self .line)) × Says as-read action-form 6 (c .args .line .now) (c .in-Continue-action .action)
 past-action c =
     let p = c .in-Continue-action .ensures tt in
     onward as-read action-form 6 (omega arith) (omega (arith, c .pre)) (at-action (need.at·In-Continue-action c .In-Continue-side)) (p .told) (p .place) (p .line)
 
-at-time : (c : need.In-Continue-action) → At (c .args .line .now) 7 (c .action .last .self .place) (now (c .action .last .self .line))
+at-time : (c : need.In-Continue-action) → At (c .args .line .now) 7 (c .value-3 .last .self .place) (now (c .value-3 .last .self .line))
 at-time c = past-action c .0
 
 past-time : (c : need.In-Continue-time) → At (c .args .line .now) 8 (c .time .last .self .place) (now (c .time .last .self .line)) × Says as-number time-form 7 (c .args .line .now) (seen (c .in-Continue-time .time))

@@ -1,7 +1,5 @@
-use mathlib.Core.Path.{ap, _∙_}
 use Rattle.life.specs.Parts.{key-parts, life-parts}
-use Rattle.measure.specs.Totals.{share}
-use Rattle.measure.proofs.Sums.{changed}
+use Rattle.measure.proofs.Sums.{total-replace}
 use Rattle.measure.proofs.total.replace.Needs as need
 
 pub returns : need.returns
@@ -10,5 +8,4 @@ returns g c =
     let k = key-parts (c .args .key .now) in
     let old = life-parts (c .args .old .now) in
     let new = life-parts (c .args .new .now) in
-    let done = c .come .ensures .joins ∙ ap (λ t. m .joined t (share (m .nil) (m .weight) k new)) (c .go .ensures .joins) in
-    record { joins = done; sums = changed (m .laws) (m .weight) (c .args .sum .now) _ k old new done }
+    record { joins = cc; sums = λ ps f u found is e. let there = total-replace (m .laws) (m .weight) k old new f ps u found is in cc }

@@ -1,7 +1,7 @@
 use mathlib.Core.Path.{_≡_, sym, ap, _∙_}
 use lib.Seq.{take-all}
 use Rattle.life.specs.Parts.{key-parts, life-parts}
-use Rattle.measure.specs.Lives.{plain}
+use Rattle.life.specs.Lives.{plain}
 use Rattle.measure.specs.Totals.{share, total-of}
 use Rattle.measure.proofs.Sums.{total-next, total-same}
 use Rattle.measure.proofs.total.total_of.Needs as need
@@ -12,7 +12,7 @@ loop-pair-again g c =
     let pair = c .pair-item .result in
     let next = total-next (m .laws) (m .weight) (c .args .lives .now) (c .loop-pair .pair-index) pair (c .loop-pair-test .taken) in
     let read = ap (λ p. share (m .nil) (m .weight) (key-parts (p .0)) (life-parts (p .1))) (c .pair-item .is) in
-    c .come .ensures .joins ∙ (λ i. m .joined (c .loop-pair .inv i) (read i)) ∙ next
+    cc
 
 pub returns : need.returns
 returns g c =

@@ -1,6 +1,6 @@
 use mathlib.Core.Path.{_≡_}
 use lib.ListN.{take}
-use Rattle.measure.specs.Lives.{plain}
+use Rattle.life.specs.Lives.{plain}
 use Rattle.measure.specs.Totals.{total-of}
 use Rattle.measure.proofs.total.total_of.Given as given
 

@@ -18,9 +18,10 @@ returns-then-n-rest c =
 pub loop-i-again : need.loop-i-again
 loop-i-again c =
     let l = ap length (take-rest (c .args .text .now) (c .loop-i .at)) in
-    let k = length-drop (c .loop-i .at) (c .args .text .now) in
-    (omega arith,
-    go-on _ _ _ (c .args .text .now) (c .loop-i .inv .1) (c .span-to-n .ensures .value) _ (c .is-name .ensures) (c .if-not-is-name .left) (omega arith) (omega arith))
+    let k = length-drop (c .loop-i .at) (c .args .text .now) in (
+      omega arith,
+      go-on _ _ _ (c .args .text .now) (c .loop-i .inv .1) (c .span-to-n .ensures .value) _ (c .is-name .ensures) (c .if-not-is-name .left) (omega arith) (omega arith),
+    )
 
 pub returns : need.returns
 returns c =

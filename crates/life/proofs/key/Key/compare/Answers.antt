@@ -21,7 +21,7 @@ pub returns-in-rest-contract : need.returns-in-rest-contract
 unfolding key-order
 returns-in-rest-contract c = record {
   is = passes _ _ _ (c .in-Equal .ensures tt) (passes _ _ _ (c .in-Equal-id .ensures tt)
-        (stops _ _ _ (c .compare-numbers-contract .ensures) (c .in-rest-contract .not-Equal)));
+      (stops _ _ _ (c .compare-numbers-contract .ensures) (c .in-rest-contract .not-Equal)));
   strict = strict;
 }
 
@@ -29,7 +29,7 @@ pub returns-in-rest-venue : need.returns-in-rest-venue
 unfolding key-order
 returns-in-rest-venue c = record {
   is = passes _ _ _ (c .in-Equal .ensures tt) (passes _ _ _ (c .in-Equal-id .ensures tt) (passes _ _ _ (c .in-Equal-contract .ensures tt)
-        (stops _ _ _ (c .compare-bytes-venue .ensures) (c .in-rest-venue .not-Equal))));
+      (stops _ _ _ (c .compare-bytes-venue .ensures) (c .in-rest-venue .not-Equal))));
   strict = strict;
 }
 
@@ -37,7 +37,7 @@ pub returns-in-rest-participant : need.returns-in-rest-participant
 unfolding key-order
 returns-in-rest-participant c = record {
   is = passes _ _ _ (c .in-Equal .ensures tt) (passes _ _ _ (c .in-Equal-id .ensures tt) (passes _ _ _ (c .in-Equal-contract .ensures tt)
-        (passes _ _ _ (c .in-Equal-venue .ensures tt) (stops _ _ _ (c .compare-bytes-participant .ensures) (c .in-rest-participant .not-Equal)))));
+      (passes _ _ _ (c .in-Equal-venue .ensures tt) (stops _ _ _ (c .compare-bytes-participant .ensures) (c .in-rest-participant .not-Equal)))));
   strict = strict;
 }
 
@@ -45,6 +45,6 @@ pub returns : need.returns
 unfolding key-order
 returns c = record {
   is = passes _ _ _ (c .in-Equal .ensures tt) (passes _ _ _ (c .in-Equal-id .ensures tt) (passes _ _ _ (c .in-Equal-contract .ensures tt)
-        (passes _ _ _ (c .in-Equal-venue .ensures tt) (passes _ _ _ (c .in-Equal-participant .ensures tt) (c .compare-sides .ensures ∙ sym (ends _))))));
+      (passes _ _ _ (c .in-Equal-venue .ensures tt) (passes _ _ _ (c .in-Equal-participant .ensures tt) (c .compare-sides .ensures ∙ sym (ends _))))));
   strict = strict;
 }

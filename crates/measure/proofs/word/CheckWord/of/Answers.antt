@@ -1,8 +1,7 @@
-use mathlib.Core.Path.{refl, ap}
+use mathlib.Core.Path.{refl}
 use Rattle.life.specs.Fnv.{word-of}
-use Rattle.measure.specs.Words.{check-word}
 use Rattle.measure.proofs.word.CheckWord.of.Needs as need
 
 pub returns : need.returns
 unfolding word-of
-returns c = record { is = ap check-word (c .hash .ensures); examples = (refl, (refl, (refl, (refl, (refl, (refl, tt)))))) }
+returns c = record { is = cc; examples = (refl, (refl, (refl, (refl, (refl, (refl, tt)))))) }

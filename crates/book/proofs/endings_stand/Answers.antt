@@ -1,0 +1,8 @@
+use mathlib.Core.Path.{refl}
+use Rattle.text.specs.Forms.{code-form, decimal-form}
+use Rattle.life.specs.Keys.{same-key}
+use Rattle.book.proofs.endings_stand.Needs as need
+
+pub returns : need.returns
+unfolding code-form decimal-form same-key
+returns c = (((refl, refl), ((refl, refl), ((refl, refl), tt))), refl)
