@@ -1,7 +1,7 @@
 // Drives the contract list, the entity list and the reader of file names with the lines of its input, and prints what each answers.
 use contract::ContractList;
-use filing::read_name;
 use filing::EntityList;
+use filing::read_name;
 use line::field_offset;
 use line::read_line;
 use std::alloc::AllocError;
@@ -59,11 +59,20 @@ fn command_of<'a>(line: &'a [u8]) -> Command<'a> {
     }
 }
 
-fn refused(rt: LibcRuntime, number: u16, field: u8, offset: usize, code: Option<&[u8]>) -> io::Result<()> {
+fn refused(
+    rt: LibcRuntime,
+    number: u16,
+    field: u8,
+    offset: usize,
+    code: Option<&[u8]>,
+) -> io::Result<()> {
     match code {
         Some(code) => {
             let code = Shown(code);
-            println!(rt, "refused {number} field {field} offset {offset} code {code}")
+            println!(
+                rt,
+                "refused {number} field {field} offset {offset} code {code}"
+            )
         }
         None => println!(rt, "refused {number} field {field} offset {offset}"),
     }
@@ -79,7 +88,10 @@ impl Lists {
     fn new(heap: Global) -> Result<Lists, AllocError> {
         let contracts = ContractList::new(heap)?;
         let entities = EntityList::new(heap)?;
-        Ok(Lists { contracts, entities })
+        Ok(Lists {
+            contracts,
+            entities,
+        })
     }
 
     fn add_contract(&mut self, rt: LibcRuntime, text: &[u8]) -> io::Result<()> {
@@ -115,7 +127,13 @@ impl Lists {
         match read_line(line) {
             Ok(report) => match self.contracts.number_of(&report) {
                 Ok(number) => println!(rt, "contract number {number}"),
-                Err(e) => refused(rt, e.number() as u16, e.field(), field_offset(line, e.field()), Some(e.code())),
+                Err(e) => refused(
+                    rt,
+                    e.number() as u16,
+                    e.field(),
+                    field_offset(line, e.field()),
+                    Some(e.code()),
+                ),
             },
             Err(e) => refused(rt, e.number(), e.field(), e.offset(), None),
         }

@@ -47,10 +47,10 @@ checked cs c known plain twice full k p t f =
 module _ (cs : List Contract) (bs : Bytes) where
   both-tables : first-fit contract-rows (cs, bs) ≡ or-else (first-fit text-rows bs) (first-fit listing-rows (cs, offered bs))
   both-tables =
-      fit-append (looking-at (λ x. x .1) text-rows) (looking-at (λ x. (x .0, offered (x .1))) listing-rows) (cs, bs)
+      fit-append {X = List Contract × Bytes} (looking-at (λ x. x .1) text-rows) (looking-at (λ x. (x .0, offered (x .1))) listing-rows) (cs, bs)
       ∙ (λ i. or-else
-          (fit-looking (λ (x : List Contract × Bytes). x .1) text-rows (cs, bs) i)
-          (fit-looking (λ (x : List Contract × Bytes). (x .0, offered (x .1))) listing-rows (cs, bs) i))
+      (fit-looking (λ (x : List Contract × Bytes). x .1) text-rows (cs, bs) i)
+      (fit-looking (λ (x : List Contract × Bytes). (x .0, offered (x .1))) listing-rows (cs, bs) i))
 
   -- the answer of adding, and the list then
   abbrev Answers : Result ℕ ContractFault → List Contract → Type 0
@@ -63,9 +63,10 @@ module _ (cs : List Contract) (bs : Bytes) where
     refused : first-fit contract-rows (cs, bs) ≡ o → Answers r cs
     refused f =
         let q = err-from-errBy r b in
-        let g = f ∙ found .0 in
-        (ap addedIn (q .1) ∙ ap (λ y. Err (contract-refusal y)) (q .2) ∙ ap (λ at. Err (Refused (contract-fault-number x) (contract-fault-field x) at)) (found .1) ∙ sym (ap (settled-by bs (suc (length cs))) g),
-        sym (ap (λ o. cond (isSome o) cs (cs ++ offered bs ∷ [])) g))
+        let g = f ∙ found .0 in (
+          ap addedIn (q .1) ∙ ap (λ y. Err (contract-refusal y)) (q .2) ∙ ap (λ at. Err (Refused (contract-fault-number x) (contract-fault-field x) at)) (found .1) ∙ sym (ap (settled-by bs (suc (length cs))) g),
+          sym (ap (λ o. cond (isSome o) cs (cs ++ offered bs ∷ [])) g),
+        )
 
   pub by-text : (r : Result ℕ ContractFault) (x : ContractFault) → ErrBy r (λ y. y ≡ x) → Err (contract-refusal x) ≡ settled-by bs (offered bs) (first-fit text-rows bs) → Answers r cs
   by-text r x b e =
@@ -84,9 +85,10 @@ module _ (cs : List Contract) (bs : Bytes) where
 
     pub by-none : (n : ℕ) (left : List Contract) → n ≡ suc (length cs) → left ≡ cs ++ contractOf c ∷ [] → Ok (tt {0}) ≡ settled-by {V = Unit {0}} bs tt (first-fit listing-rows (cs, contractOf c)) → Answers (Ok n) left
     by-none n left l m f =
-        let none = listing-only ∙ none-fitted {V = Unit {0}} bs tt tt (first-fit listing-rows (cs, contractOf c)) f .0 in
-        (ap Ok l ∙ sym (ap (settled-by bs (suc (length cs))) none),
-        m ∙ ap (λ x. cs ++ x ∷ []) (read-so .1) ∙ sym (ap (λ o. cond (isSome o) cs (cs ++ offered bs ∷ [])) none))
+        let none = listing-only ∙ none-fitted {V = Unit {0}} bs tt tt (first-fit listing-rows (cs, contractOf c)) f .0 in (
+          ap Ok l ∙ sym (ap (settled-by bs (suc (length cs))) none),
+          m ∙ ap (λ x. cs ++ x ∷ []) (read-so .1) ∙ sym (ap (λ o. cond (isSome o) cs (cs ++ offered bs ∷ [])) none),
+        )
 
 -- ---- What a read line owes to the list
 

@@ -21,15 +21,16 @@ use crate::list::ContractList;
 use crate::names::has_all;
 use crate::names::has_twice;
 use crate::offers::read_contract;
-use line::field_offset;
 use line::Report;
+use line::field_offset;
 use std::alloc::AllocError;
 use std::alloc::Global;
-use text::same_bytes;
 use text::Names;
+use text::same_bytes;
 
 // The most contracts, and the most index names of all contracts together.
 const MOST_CONTRACTS: usize = 63;
+
 const MOST_NAMES: usize = 255;
 
 // A contract of the list with its number.
@@ -76,7 +77,10 @@ impl ContractList {
         for i in 0..contracts.len() {
             let contract = &contracts[i];
             if same_bytes(contract.id.as_slice(), id) {
-                return Some(Found { number: i as u8 + 1, contract });
+                return Some(Found {
+                    number: i as u8 + 1,
+                    contract,
+                });
             }
         }
         None
@@ -122,10 +126,14 @@ impl ContractList {
             return Err(ContractFault::Listed);
         }
         if contract.lacks_style() {
-            return Err(ContractFault::Style { at: field_offset(text, 3) });
+            return Err(ContractFault::Style {
+                at: field_offset(text, 3),
+            });
         }
         if has_twice(contract.names.as_slice()) {
-            return Err(ContractFault::NameTwice { at: field_offset(text, 4) });
+            return Err(ContractFault::NameTwice {
+                at: field_offset(text, 4),
+            });
         }
         if self.is_full(contract.names.count) {
             return Err(ContractFault::Full);

@@ -25,8 +25,9 @@ loop-name-again c =
     let kept = text-kept _ _ _ (c .unwrap .ensures) (fits-text _ (c .in-Some .name .now) (name-short _ (n .0)) (c .new .ensures)) in
     let l = ap length f in
     let m = ap length (c .rest-rest .ensures) in
-    let room : c .loop-name .count < length (c .loop-name .texts) = omega arith in
-    (length-set _ _ _ ∙ c .loop-name .inv .0,
-    omega arith,
-    ap (every a-name) (c .rest-rest .ensures) ∙ n .1,
-    one-more (c .loop-name .texts) (c .loop-name .count) _ (c .in-Some .name .now) ns _ _ room kept f (c .rest-rest .ensures) (c .loop-name .inv .3))
+    let room : c .loop-name .count < length (c .loop-name .texts) = omega arith in (
+      length-set _ _ _ ∙ c .loop-name .inv .0,
+      omega arith,
+      ap (every a-name) (c .rest-rest .ensures) ∙ n .1,
+      one-more (c .loop-name .texts) (c .loop-name .count) _ (c .in-Some .name .now) ns _ _ room kept f (c .rest-rest .ensures) (c .loop-name .inv .3),
+    )

@@ -22,5 +22,5 @@ returns c =
     let l = length-map held contractOf in
     let m = ap (map contractOf) (c .push-reserved .ensures .items) ∙ map-append contractOf held (c .in-Continue-contract .contract ∷ []) in
     let a = by-none (contractsOf (c .args .self .now)) (c .args .text .now) (c .in-Continue-contract .contract) (c .in-Continue-contract .ensures tt)
-      (c .len .result) _ (omega (arith, c .len .ensures, c .push-reserved .ensures .len)) m (c .in-Continue-check .ensures tt .told) in
+    (c .len .result) _ (omega (arith, c .len .ensures, c .push-reserved .ensures .len)) m (c .in-Continue-check .ensures tt .told) in
     record { told = a .0; list = a .1 }

@@ -12,8 +12,8 @@ pub returns-then-same-bytes : need.returns-then-same-bytes
 returns-then-same-bytes c =
     record {
       told =
-        sym (sym (c .loop-i .inv)
-        ∙ search-more (c .as-slice-contracts .result .now) (c .args .id .now) _ (c .loop-i .i) _ _ (c .loop-i-test .taken) (c .index-contracts-i .is) (c .as-slice .ensures) (c .if-same-bytes .ensures tt));
+          sym (sym (c .loop-i .inv)
+          ∙ search-more (c .as-slice-contracts .result .now) (c .args .id .now) _ (c .loop-i .i) _ _ (c .loop-i-test .taken) (c .index-contracts-i .is) (c .as-slice .ensures) (c .if-same-bytes .ensures tt));
       small = omega (arith, c .as-slice-contracts .ensures .len);
     }
 
