@@ -24,8 +24,8 @@ pub enum ContractFault {
 pub impl From<ReadFault> for ContractFault as ContractFaultFromRead {
     ghost converts = { λ e r. r ≡ Form e };
 
-    fn from(e: ReadFault) -> ContractFault {
-        ContractFault::Form(e)
+    fn from(fault: ReadFault) -> ContractFault {
+        ContractFault::Form(fault)
     }
 }
 

@@ -6,6 +6,7 @@ mod list;
 mod names;
 mod offers;
 mod types;
+
 pub use faults::ContractFault;
 pub use faults::ContractFaultFromRead;
 pub use faults::ListFault;

@@ -9,9 +9,9 @@ ghost use Rattle.text.specs.Texts.{textsOf};
 ghost use Rattle.contract.specs.ContractList.{repeats};
 ghost use Rattle.contract.specs.Held.{namesOf};
 use crate::held::NameList;
-use text::is_among;
 use text::Names;
 use text::Text;
+use text::is_among;
 
 impl NameList {
     // The names of a part of a text.

@@ -9,13 +9,13 @@ use crate::held::HeldContract;
 use crate::held::NameList;
 use crate::types::ContractType;
 use crate::types::OptionStyle;
-use line::field_count;
-use line::Form;
+use line::FieldForm;
 use line::ReadFault;
 use line::Reader;
+use line::field_count;
 use text::Text;
 
-impl Form for ContractType as TypeForm {
+impl FieldForm for ContractType as TypeField {
     ghost form = { type-form };
 
     fn said_by(text: &[u8]) -> Option<ContractType> {
@@ -23,7 +23,7 @@ impl Form for ContractType as TypeForm {
     }
 }
 
-impl Form for OptionStyle as StyleForm {
+impl FieldForm for OptionStyle as StyleField {
     ghost form = { style-said };
 
     fn said_by(text: &[u8]) -> Option<OptionStyle> {
@@ -41,10 +41,15 @@ fn read_fields(text: &[u8]) -> Result<HeldContract, ReadFault>
 {
     let mut reader = Reader::new(text);
     let id = reader.id(1, 32)?;
-    let kind = reader.value::<TypeForm>()?;
-    let style = reader.value::<StyleForm>()?;
+    let kind = reader.value::<TypeField>()?;
+    let style = reader.value::<StyleField>()?;
     let names = reader.names()?;
-    Ok(HeldContract { id: Text::new(id.bytes()).unwrap(), kind, style, names: NameList::of(names.names()) })
+    Ok(HeldContract {
+        id: Text::new(id.bytes()).unwrap(),
+        kind,
+        style,
+        names: NameList::of(names.names()),
+    })
 }
 
 // The contract that a text says, or why it says none.

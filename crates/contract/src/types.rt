@@ -74,7 +74,11 @@ impl OptionStyle {
         match text {
             [] => Some(OptionStyle::Blank),
             [b] => {
-                if b.is_ascii_uppercase() { Some(OptionStyle::Letter(*b)) } else { None }
+                if b.is_ascii_uppercase() {
+                    Some(OptionStyle::Letter(*b))
+                } else {
+                    None
+                }
             }
             _ => None,
         }

@@ -35,10 +35,10 @@ pub part-and-more : (t f r : Bytes) → Some (f, r) ≡ in-two 95 t → pieces 9
 part-and-more t f r e =
     ⊎-elim
     (λ (y : ltb (span-to 95 t) (length t) ≡ true).
-        let l : span-to 95 t < length t = grind (arith, tells) in
-        let p : front-to 95 t ≡ f = grind (arith, tells) in
-        let q : drop (span-to 95 t + 1) t ≡ r = grind (arith, tells) in
-        piece-and-more 95 t l ∙ (λ i. p i ∷ pieces 95 (q i)))
+    let l : span-to 95 t < length t = grind (arith, tells) in
+    let p : front-to 95 t ≡ f = grind (arith, tells) in
+    let q : drop (span-to 95 t + 1) t ≡ r = grind (arith, tells) in
+    piece-and-more 95 t l ∙ (λ i. p i ∷ pieces 95 (q i)))
     (λ (n : ltb (span-to 95 t) (length t) ≡ false). absurd (let z : _≡_ {A = ℕ} 0 1 = grind (arith, tells) in omega arith))
     (cases-bool (ltb (span-to 95 t) (length t)))
 
@@ -85,11 +85,11 @@ last-part : (d s v c l : Bytes) → code-in (d ∷ s ∷ v ∷ c ∷ pieces 95 l
 last-part d s v c l =
     ⊎-elim
     (λ (y : ltb (span-to 95 l) (length l) ≡ true).
-        let h : span-to 95 l < length l = grind (arith, tells) in
-        ap (λ ts. code-in (d ∷ s ∷ v ∷ c ∷ ts)) (piece-and-more 95 l h ∙ ap (λ ts. front-to 95 l ∷ ts) (first-after 95 (drop (span-to 95 l + 1) l)))
-        ∙ sym (ap (λ b. cond b (code-form c) None) (never-around d s v l (barred l h))))
+    let h : span-to 95 l < length l = grind (arith, tells) in
+    ap (λ ts. code-in (d ∷ s ∷ v ∷ c ∷ ts)) (piece-and-more 95 l h ∙ ap (λ ts. front-to 95 l ∷ ts) (first-after 95 (drop (span-to 95 l + 1) l)))
+    ∙ sym (ap (λ b. cond b (code-form c) None) (never-around d s v l (barred l h))))
     (λ (n : ltb (span-to 95 l) (length l) ≡ false).
-        ap (λ ts. code-in (d ∷ s ∷ v ∷ c ∷ ts)) (alone l (let h : length l ≤ span-to 95 l = grind (arith, tells) in h)))
+    ap (λ ts. code-in (d ∷ s ∷ v ∷ c ∷ ts)) (alone l (let h : length l ≤ span-to 95 l = grind (arith, tells) in h)))
     (cases-bool (ltb (span-to 95 l) (length l)))
 
 module _ (name : Bytes) where
@@ -144,21 +144,21 @@ stands zero t h =
 stands (suc k) t h =
     ⊎-elim
     (λ (y : ltb (span-to 95 t) (length t) ≡ true).
-        let l : span-to 95 t < length t = grind (arith, tells) in
-        let e = piece-and-more 95 t l in
-        let r = drop (span-to 95 t + 1) t in
-        let n : length (front-to 95 t) ≡ span-to 95 t = length-take-le (span-to 95 t) t (omega arith) in
-        let m = ap length e in
-        let i = stands k r (omega arith) in
-        let j : drop (start (suc k) (pieces 95 r)) r ≡ drop (length (front-to 95 t) + 1 + start (suc k) (pieces 95 r)) t =
-          drop-drop (start (suc k) (pieces 95 r)) (span-to 95 t + 1) t ∙ ap (λ x. drop x t) (omega arith) in
-        ap (piece (suc (suc k))) e
-        ∙ i
-        ∙ ap (take (length (piece (suc k) (pieces 95 r)))) j
-        ∙ ap (λ ts. take (length (piece (suc (suc k)) ts)) (drop (start (suc (suc k)) ts) t)) (sym e))
+    let l : span-to 95 t < length t = grind (arith, tells) in
+    let e = piece-and-more 95 t l in
+    let r = drop (span-to 95 t + 1) t in
+    let n : length (front-to 95 t) ≡ span-to 95 t = length-take-le (span-to 95 t) t (omega arith) in
+    let m = ap length e in
+    let i = stands k r (omega arith) in
+    let j : drop (start (suc k) (pieces 95 r)) r ≡ drop (length (front-to 95 t) + 1 + start (suc k) (pieces 95 r)) t =
+    drop-drop (start (suc k) (pieces 95 r)) (span-to 95 t + 1) t ∙ ap (λ x. drop x t) (omega arith) in
+    ap (piece (suc (suc k))) e
+    ∙ i
+    ∙ ap (take (length (piece (suc k) (pieces 95 r)))) j
+    ∙ ap (λ ts. take (length (piece (suc (suc k)) ts)) (drop (start (suc (suc k)) ts) t)) (sym e))
     (λ (n : ltb (span-to 95 t) (length t) ≡ false).
-        let l : length t ≤ span-to 95 t = grind (arith, tells) in
-        absurd (omega (arith, ap length (piece-alone 95 t l))))
+    let l : length t ≤ span-to 95 t = grind (arith, tells) in
+    absurd (omega (arith, ap length (piece-alone 95 t l))))
     (cases-bool (ltb (span-to 95 t) (length t)))
 
 code-fourth : (ts : List Bytes) (c : Bytes) → code-in ts ≡ Some c → (3 < length ts) × (c ≡ piece 4 ts)
@@ -188,6 +188,7 @@ answered name c at e = go (name-form name) refl e
         let p : c ≡ d = ap (λ (x : Bytes × ℕ). x .0) pair in
         let q : at ≡ code-offset name = ap (λ (x : Bytes × ℕ). x .1) pair in
         let f = code-fourth (pieces 95 name) d n in
-        let w = p ∙ f .1 in
-        ((λ i. Ok (p i, q i)) ∙ sym (ap (λ o. settled-by name (value [] o, code-offset name) (cond (not (has-form o)) (Some (64, 0)) None)) n),
-        w ∙ stands 3 name (f .0) ∙ sym (λ i. take (length (w i)) (drop (q i) name)))
+        let w = p ∙ f .1 in (
+          (λ i. Ok (p i, q i)) ∙ sym (ap (λ o. settled-by name (value [] o, code-offset name) (cond (not (has-form o)) (Some (64, 0)) None)) n),
+          w ∙ stands 3 name (f .0) ∙ sym (λ i. take (length (w i)) (drop (q i) name)),
+        )

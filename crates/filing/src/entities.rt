@@ -12,9 +12,9 @@ ghost use Rattle.filing.specs.Known.{known};
 use crate::entity_list::EntityList;
 use std::alloc::AllocError;
 use std::alloc::Global;
+use text::Text;
 use text::is_among;
 use text::is_code;
-use text::Text;
 
 // Why an entity is not added.
 #[derive(Clone, Copy, PartialEq, Eq, Debug)]

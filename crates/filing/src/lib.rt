@@ -2,8 +2,9 @@
 mod entities;
 mod entity_list;
 mod names;
+
 pub use entities::EntityFault;
 pub use entity_list::EntityList;
-pub use names::read_name;
 pub use names::EntityCode;
 pub use names::NameFault;
+pub use names::read_name;

@@ -8,12 +8,12 @@ ghost use Rattle.filing.specs.Codes.{codeIn, namingIn, «code-there»};
 ghost use Rattle.filing.specs.Cut.{«in-two», cutIn};
 ghost use Rattle.filing.specs.Faults.{«name-number» as number-of};
 ghost use Rattle.filing.specs.Names.{«a-date», «a-schema», «a-version», «a-last», naming};
-use text::all_of;
 use text::Digits;
 use text::DigitsClass;
-use text::is_code;
 use text::LettersOrDigits;
 use text::LettersOrDigitsClass;
+use text::all_of;
+use text::is_code;
 use text::same_bytes;
 use text::span_to;
 
@@ -57,7 +57,10 @@ fn first_cut<'a>(text: &'a [u8]) -> Option<Cut<'a>>
     if n == text.len() {
         return None;
     }
-    Some(Cut { front: &text[0..n], rest: &text[n + 1..] })
+    Some(Cut {
+        front: &text[0..n],
+        rest: &text[n + 1..],
+    })
 }
 
 // Eight digits.
@@ -116,7 +119,10 @@ fn code_in<'a>(name: &'a [u8]) -> Option<EntityCode<'a>>
     if !is_code(code.front) {
         return None;
     }
-    Some(EntityCode { text: code.front, at: date.front.len() + schema.front.len() + version.front.len() + 3 })
+    Some(EntityCode {
+        text: code.front,
+        at: date.front.len() + schema.front.len() + version.front.len() + 3,
+    })
 }
 
 // The entity code of a file's name.

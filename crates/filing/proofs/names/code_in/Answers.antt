@@ -19,12 +19,12 @@ past-schema c = past-date (need.at·In-Continue-schema c .In-Continue-date) ∙ 
 
 past-version : (c : need.In-Continue-version)
     → pieces 95 (c .args .name .now)
-      ≡ now (c .in-Continue-date .date .front) ∷ now (c .in-Continue-schema .schema .front) ∷ now (c .in-Continue-version .version .front) ∷ pieces 95 (now (c .in-Continue-version .version .rest))
+    ≡ now (c .in-Continue-date .date .front) ∷ now (c .in-Continue-schema .schema .front) ∷ now (c .in-Continue-version .version .front) ∷ pieces 95 (now (c .in-Continue-version .version .rest))
 past-version c = past-schema (need.at·In-Continue-version c .In-Continue-schema) ∙ ap (λ ts. now (c .in-Continue-date .date .front) ∷ now (c .in-Continue-schema .schema .front) ∷ ts) (part-and-more (now (c .in-Continue-schema .schema .rest)) _ _ (c .in-Continue-version .ensures tt))
 
 past-code : (c : need.In-Continue-code)
     → pieces 95 (c .args .name .now)
-      ≡ now (c .in-Continue-date .date .front) ∷ now (c .in-Continue-schema .schema .front) ∷ now (c .in-Continue-version .version .front) ∷ now (c .in-Continue-code .code .front) ∷ pieces 95 (now (c .in-Continue-code .code .rest))
+    ≡ now (c .in-Continue-date .date .front) ∷ now (c .in-Continue-schema .schema .front) ∷ now (c .in-Continue-version .version .front) ∷ now (c .in-Continue-code .code .front) ∷ pieces 95 (now (c .in-Continue-code .code .rest))
 past-code c = past-version (need.at·In-Continue-code c .In-Continue-version) ∙ ap (λ ts. now (c .in-Continue-date .date .front) ∷ now (c .in-Continue-schema .schema .front) ∷ now (c .in-Continue-version .version .front) ∷ ts) (part-and-more (now (c .in-Continue-version .version .rest)) _ _ (c .in-Continue-code .ensures tt))
 
 pub returns-in-Break-date : need.returns-in-Break-date

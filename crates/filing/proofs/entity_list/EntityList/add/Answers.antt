@@ -29,6 +29,6 @@ returns c =
     record {
       told = fitting es (c .args .code .now) _ _ _ (c .in-Some .ensures tt) (c .if-knows .ensures tt) room;
       list =
-        texts-push (c .args .self .now .codes .items) _ (c .in-Some .text) (c .args .code .now) (c .push-reserved .ensures .items) (says-itself (c .args .code .now) _ (c .in-Some .ensures tt))
-        ∙ leaves es (c .args .code .now) _ _ _ (c .in-Some .ensures tt) (c .if-knows .ensures tt) room;
+          texts-push (c .args .self .now .codes .items) _ (c .in-Some .text) (c .args .code .now) (c .push-reserved .ensures .items) (says-itself (c .args .code .now) _ (c .in-Some .ensures tt))
+          ∙ leaves es (c .args .code .now) _ _ _ (c .in-Some .ensures tt) (c .if-knows .ensures tt) room;
     }

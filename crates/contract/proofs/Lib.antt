@@ -1,0 +1,4 @@
+pub mod NameTexts
+pub mod Readings
+pub mod Searches
+pub mod Tables
