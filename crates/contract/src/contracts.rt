@@ -48,7 +48,7 @@ impl HeldContract {
         self.kind.needs_style() && self.style.is_blank()
     }
 
-    // Whether a line has to say one of its index names, and says none: where it has one, or none, that is not needed.
+    // Whether a line lacks an index name: a contract with two or more wants one said.
     fn wants_name(&self, names: Names) -> bool
         ensures { λ r. ⌜ r ≡ (leb 2 (length (contractOf (now (self .entry)) .«index-names»)) && eqb (length (listing (names .entry))) 0) ⌝ }
     {
