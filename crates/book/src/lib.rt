@@ -1,5 +1,7 @@
 // The book: what is held and answered, said by the capacity and the calls alone, and the laws over whole runs of it.
 // The laws stand on the contracts of the functions below.
+#![tactic(auto)]
+
 ghost use Rattle.std.specs.Prelude.{◌≡◌, ℕ, List, length, is_some, if◌then◌else◌, Option};
 ghost use Rattle.line.specs.Lines.{Reported};
 ghost use Rattle.filing.specs.Files.{judged_limit};

@@ -1,4 +1,6 @@
 // The checker.
+#![tactic(auto)]
+
 mod answer;
 mod by_call;
 mod call;

@@ -1,4 +1,6 @@
 // Prints what each line of the input says as a report line, or the number, field and offset of the first rule that it breaks.
+#![tactic(auto)]
+
 use line::{ReadFault, Report, read_line};
 use std::io;
 use std::io::{Read, Write};

@@ -1,4 +1,6 @@
 // Drives the contract list, the entity list and the reader of file names with the lines of its input, and prints what each answers.
+#![tactic(auto)]
+
 use contract::ContractList;
 use filing::{EntityList, read_name};
 use line::{field_offset, read_line};

@@ -1,4 +1,6 @@
 // Drives both stores with one list of steps and prints what each answers.
+#![tactic(auto)]
+
 mod steps;
 
 use chained::{Chained, Slot};

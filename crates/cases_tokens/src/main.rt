@@ -1,4 +1,6 @@
 // Drives a checker over a small chained store by the tokens of two files, and prints what happens.
+#![tactic(auto)]
+
 mod journal;
 
 use calls::Checker;

@@ -1,4 +1,6 @@
 // A store over a lent table of slots, which are chained by the words of their keys.
+#![tactic(auto)]
+
 mod chained;
 mod slot;
 mod table;

@@ -1,4 +1,6 @@
 // Reads lines from standard input and says of each report line whether its form is right.
+#![tactic(auto)]
+
 mod commands;
 
 use commands::{Refusal, answer};

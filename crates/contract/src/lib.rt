@@ -1,4 +1,6 @@
 // The contract list, and what a read line owes to it.
+#![tactic(auto)]
+
 mod contracts;
 mod faults;
 mod held;

@@ -1,4 +1,6 @@
 // The files that lines are judged in: named, identified and ended, with the counts of their lines.
+#![tactic(auto)]
+
 mod acts;
 mod by_number;
 mod by_token;

@@ -1,4 +1,6 @@
 // Reporting entities, file names, and the files that lines are judged in.
+#![tactic(auto)]
+
 mod entities;
 mod entity_list;
 mod names;

@@ -1,5 +1,7 @@
 // Times finds in both stores: `finds_stores HELD AMONG` holds that many keys and prints the time of one find among so many of
 // them, or among all. Without an argument it makes a short run and prints only what was found.
+#![tactic(auto)]
+
 mod keys;
 
 use chained::{Chained, Slot};

@@ -1,4 +1,6 @@
 // Keys, lives, what an action does to a life, and what a store of lives means.
+#![tactic(auto)]
+
 mod acts;
 mod fault;
 mod fnv;

@@ -1,4 +1,6 @@
 // Reads report lines.
+#![tactic(auto)]
+
 mod faults;
 mod offsets;
 mod parts;

@@ -1,4 +1,6 @@
 // What a register adds up over its open lives: measures, and totals over any of them.
+#![tactic(auto)]
+
 mod both;
 mod measure;
 mod positions;

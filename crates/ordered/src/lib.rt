@@ -1,4 +1,6 @@
 // A store over a lent table that is kept in the order of keys.
+#![tactic(auto)]
+
 mod entry;
 mod ordered;
 mod table;

@@ -1,4 +1,6 @@
 // A register: a store of lives and the total of what its open lives weigh, over any store and any measure.
+#![tactic(auto)]
+
 mod faults;
 mod held;
 

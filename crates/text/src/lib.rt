@@ -1,4 +1,6 @@
 // Texts, words, numbers and names: what the parts of a line are made of.
+#![tactic(auto)]
+
 mod bounded;
 mod classes;
 mod codes;
