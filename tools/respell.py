@@ -15,6 +15,7 @@ import sys
 # Names that would fall together with others of theirs: told apart here.
 APART = {
     "names-of": "index_names_of",  # of a contract that is found; `names_of` are those of a list of names
+    "claim-of": "claim_said_of",  # a lemma on what is claimed; `claim_of` is the definition
     "No-line": "NoReportLine",  # a call that marks no line; `NoLine` is the code's
     "fileOf": "as_file",  # a held file as plain data; `file_of` is the file of a number
 }
@@ -50,9 +51,9 @@ def defined(root):
                 if re.match(r"(use|pub use|pub mod|mod|open|unfolding|infix)", line):
                     continue
                 m = re.match(r"(?:(abbrev|unfoldable|ruleset)\s+)?(?:pub\s+)?(?:(data|record)\s+)?([^\s:(){}]+)", line)
-                if not m or not (" : " in line or m.group(1) or m.group(2)):
+                if not m or not (" : " in line or line.endswith(" :") or m.group(1) or m.group(2)):
                     continue
-                if goals and re.search(r":\s*(need|goal|choice|given)\.", line):
+                if goals and re.match(r"(abbrev )?(pub )?[^\s]+ :\s*((need|goal|choice|given)\.|$)", line):
                     continue
                 found.add(m.group(3))
                 inside = m.group(2)
@@ -62,6 +63,10 @@ def defined(root):
                 m = re.match(r"\s+(?:pub\s+)?([^:]+?)\s+:\s", line)
                 if m:
                     found.update(m.group(1).split())
+            else:
+                m = re.match(r"\s+(?:pub\s+)?([\w'-]+)\s+:(\s|$)", line)
+                if m:
+                    found.add(m.group(1))
     return found
 
 

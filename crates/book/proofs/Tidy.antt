@@ -142,8 +142,8 @@ acted_tidy Cancel k t q p capacity ls c w r s = record {
 -- ---- A call, and a run
 
 module _ (capacity : ℕ) where
-  files-tidy : (b : Book) (fs : List File) → Tidy capacity b → All TidyFile fs → Tidy capacity (with_files b fs)
-  files-tidy b fs s h = record {
+  files_tidy : (b : Book) (fs : List File) → Tidy capacity b → All TidyFile fs → Tidy capacity (with_files b fs)
+  files_tidy b fs s h = record {
     as_made = s.as_made;
     no_key_twice = s.no_key_twice;
     lives_within = s.lives_within;
@@ -153,8 +153,8 @@ module _ (capacity : ℕ) where
     contracts_within = s.contracts_within;
   }
 
-  lives-tidy : (b : Book) (ls : Lives) → Tidy capacity b → TidyLives capacity ls → Tidy capacity (with_lives b ls)
-  lives-tidy b ls s h = record {
+  lives_tidy : (b : Book) (ls : Lives) → Tidy capacity b → TidyLives capacity ls → Tidy capacity (with_lives b ls)
+  lives_tidy b ls s h = record {
     as_made = s.as_made;
     no_key_twice = h.apart;
     lives_within = h.few;
@@ -164,23 +164,23 @@ module _ (capacity : ℕ) where
     contracts_within = s.contracts_within;
   }
 
-  put-tidy : (b : Book) (n : ℕ) (f : File) → Tidy capacity b → TidyFile f → Tidy capacity (put_file b n f)
-  put-tidy b n f s h = files-tidy b (set b.files n f) s (All-set TidyFile b.files n f h s.each_file)
+  put_tidy : (b : Book) (n : ℕ) (f : File) → Tidy capacity b → TidyFile f → Tidy capacity (put_file b n f)
+  put_tidy b n f s h = files_tidy b (set b.files n f) s (All-set TidyFile b.files n f h s.each_file)
 
-  line-tidy : (n : ℕ) (bs : Bytes) (b : Book) (v : Option (ℕ × ℕ)) → verdict b (Judge n bs) ≡ v → Tidy capacity b → Tidy capacity (changed b (Judge n bs) v)
-  line-tidy n bs b (Some r) e s = put-tidy b n _ s (refused_tidy _ (file_tidy b.files n s.each_file))
-  line-tidy n bs b None e s =
+  line_tidy : (n : ℕ) (bs : Bytes) (b : Book) (v : Option (ℕ × ℕ)) → verdict b (Judge n bs) ≡ v → Tidy capacity b → Tidy capacity (changed b (Judge n bs) v)
+  line_tidy n bs b (Some r) e s = put_tidy b n _ s (refused_tidy _ (file_tidy b.files n s.each_file))
+  line_tidy n bs b None e s =
       let p = passed b n bs e in
       let x = told_by b.contracts bs in
       let ls = acted_tidy x.says.action (key_of x) x.says.time x.says.quantity x.says.price capacity b.lives
       (contract_within b.contracts bs s.contracts_within) (quantity_within _)
       (subst (λ m. Room x.says.action (key_of x) m b.lives) s.as_made (room b n bs p))
       (record { apart = s.no_key_twice; few = s.lives_within; each = s.each_life }) in
-      put-tidy (with_lives b _) n _ (lives-tidy b _ s ls) (accepted_tidy _ p.takes (file_tidy b.files n s.each_file))
+      put_tidy (with_lives b _) n _ (lives_tidy b _ s ls) (accepted_tidy _ p.takes (file_tidy b.files n s.each_file))
 
-  entity-tidy : (bs : Bytes) (b : Book) (v : Option (ℕ × ℕ)) → verdict b (AddEntity bs) ≡ v → Tidy capacity b → Tidy capacity (changed b (AddEntity bs) v)
-  entity-tidy bs b (Some r) e s = s
-  entity-tidy bs b None e s =
+  entity_tidy : (bs : Bytes) (b : Book) (v : Option (ℕ × ℕ)) → verdict b (AddEntity bs) ≡ v → Tidy capacity b → Tidy capacity (changed b (AddEntity bs) v)
+  entity_tidy bs b (Some r) e s = s
+  entity_tidy bs b None e s =
       let w : length b.entities < entity_limit = leb-false _ _ (none_fits entity_rows (b.entities, bs) e).1.1.0 in
       record {
         as_made = s.as_made;
@@ -192,9 +192,9 @@ module _ (capacity : ℕ) where
         contracts_within = s.contracts_within;
       }
 
-  contract-tidy : (bs : Bytes) (b : Book) (v : Option (ℕ × ℕ)) → verdict b (AddContract bs) ≡ v → Tidy capacity b → Tidy capacity (changed b (AddContract bs) v)
-  contract-tidy bs b (Some r) e s = s
-  contract-tidy bs b None e s =
+  contract_tidy : (bs : Bytes) (b : Book) (v : Option (ℕ × ℕ)) → verdict b (AddContract bs) ≡ v → Tidy capacity b → Tidy capacity (changed b (AddContract bs) v)
+  contract_tidy bs b (Some r) e s = s
+  contract_tidy bs b None e s =
       let none = (or_none (first_fit text_rows bs) _ (sym (contract_parts b.contracts bs) ∙ e)).1 in
       let w : length b.contracts < contract_limit = leb-false _ _ (or_parts _ _ (none_fits listing_rows (b.contracts, offered bs) none).1.1.1.0).0 in
       record {
@@ -207,33 +207,33 @@ module _ (capacity : ℕ) where
         contracts_within = simp length-append (omega (arith, w));
       }
 
-  staging-tidy : (n : ℕ) (to : Stage) (b : Book) → Tidy capacity b → Tidy capacity (put_file b n (at_stage to (file_of b.files n)))
-  staging-tidy n to b s = put-tidy b n _ s (staged_tidy to _ (file_tidy b.files n s.each_file))
+  staging_tidy : (n : ℕ) (to : Stage) (b : Book) → Tidy capacity b → Tidy capacity (put_file b n (at_stage to (file_of b.files n)))
+  staging_tidy n to b s = put_tidy b n _ s (staged_tidy to _ (file_tidy b.files n s.each_file))
 
-  call-tidy : (c : Call) (b : Book) (v : Option (ℕ × ℕ)) → verdict b c ≡ v → Tidy capacity b → Tidy capacity (changed b c v)
-  call-tidy (AddEntity bs) b v e s = entity-tidy bs b v e s
-  call-tidy (AddContract bs) b v e s = contract-tidy bs b v e s
-  call-tidy (NameFile bs) b (Some r) e s = s
-  call-tidy (NameFile bs) b None e s = files-tidy b _ s (All-push TidyFile b.files _ s.each_file (named_tidy _))
-  call-tidy (Identify n bs) b (Some r) e s = s
-  call-tidy (Identify n bs) b None e s = staging-tidy n Identified b s
-  call-tidy (Withdraw n) b (Some r) e s = s
-  call-tidy (Withdraw n) b None e s = staging-tidy n Ended b s
-  call-tidy (Close n) b (Some r) e s = s
-  call-tidy (Close n) b None e s = staging-tidy n Ended b s
-  call-tidy (Judge n bs) b v e s = line-tidy n bs b v e s
-  call-tidy (LookUp bs) b (Some r) e s = s
-  call-tidy (LookUp bs) b None e s = s
-  call-tidy Total b (Some r) e s = s
-  call-tidy Total b None e s = s
+  call_tidy : (c : Call) (b : Book) (v : Option (ℕ × ℕ)) → verdict b c ≡ v → Tidy capacity b → Tidy capacity (changed b c v)
+  call_tidy (AddEntity bs) b v e s = entity_tidy bs b v e s
+  call_tidy (AddContract bs) b v e s = contract_tidy bs b v e s
+  call_tidy (NameFile bs) b (Some r) e s = s
+  call_tidy (NameFile bs) b None e s = files_tidy b _ s (All-push TidyFile b.files _ s.each_file (named_tidy _))
+  call_tidy (Identify n bs) b (Some r) e s = s
+  call_tidy (Identify n bs) b None e s = staging_tidy n Identified b s
+  call_tidy (Withdraw n) b (Some r) e s = s
+  call_tidy (Withdraw n) b None e s = staging_tidy n Ended b s
+  call_tidy (Close n) b (Some r) e s = s
+  call_tidy (Close n) b None e s = staging_tidy n Ended b s
+  call_tidy (Judge n bs) b v e s = line_tidy n bs b v e s
+  call_tidy (LookUp bs) b (Some r) e s = s
+  call_tidy (LookUp bs) b None e s = s
+  call_tidy Total b (Some r) e s = s
+  call_tidy Total b None e s = s
 
-  run-tidy : (cs : List Call) (b : Book) → Tidy capacity b → Tidy capacity (end b cs)
-  run-tidy [] b s = s
-  run-tidy (c ∷ cs) b s = run-tidy cs (after b c) (call-tidy c b (verdict b c) refl s)
+  run_tidy : (cs : List Call) (b : Book) → Tidy capacity b → Tidy capacity (end b cs)
+  run_tidy [] b s = s
+  run_tidy (c ∷ cs) b s = run_tidy cs (after b c) (call_tidy c b (verdict b c) refl s)
 
 pub tidy_law : TidyLaw
 tidy_law capacity calls =
-    run-tidy capacity calls (empty_book capacity)
+    run_tidy capacity calls (empty_book capacity)
     (record {
       as_made = refl;
       no_key_twice = refl;

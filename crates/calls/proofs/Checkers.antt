@@ -23,8 +23,8 @@ module _ {S M : Type 0} (room : S → ℕ) (pairs : S → List (Key × Life)) (u
       (plain_unique (pairs was.register.store.now) (unique was.register.store.now)) (plain_unique (pairs is.register.store.now) (unique is.register.store.now)) s f
 
   -- naming a file, where want of memory is no answer
-  pub named-so : (was is : Checker S M) (c : Call) (had : Bool) (a : Answer) (r : Result Spoken AllocError) →
+  pub named_so : (was is : Checker S M) (c : Call) (had : Bool) (a : Answer) (r : Result Spoken AllocError) →
       MatchResult r (λ x. (had ≡ true) × (answer_said x ≡ a)) (λ _. had ≡ false) → (had ≡ true → Continues room pairs nil joined weight was c a is) → (had ≡ false → Stays room pairs nil joined weight was is) →
       IfOk r (λ x. Continues room pairs nil joined weight was c (answer_said x) is) × IfErr r (λ _. Stays room pairs nil joined weight was is)
-  named-so was is c had a (Ok x) e goes stays = (subst (λ y. Continues room pairs nil joined weight was c y is) (sym e.1) (goes e.0), tt)
-  named-so was is c had a (Err x) e goes stays = (tt, stays e)
+  named_so was is c had a (Ok x) e goes stays = (subst (λ y. Continues room pairs nil joined weight was c y is) (sym e.1) (goes e.0), tt)
+  named_so was is c had a (Err x) e goes stays = (tt, stays e)

@@ -11,7 +11,7 @@ use Rattle.life.specs.Lives.{Lives, look, altered, erase, Unique, Same}
 use Rattle.life.proofs.Lives.{same_erase, look_altered_at, length_same, mapped}
 use Rattle.measure.specs.Group.{Group}
 use Rattle.measure.specs.Totals.{total_of}
-use Rattle.measure.proofs.Sums.{total-same}
+use Rattle.measure.proofs.Sums.{total_same}
 use Rattle.book.specs.Book.{Book, empty_book, Call, AddEntity, AddContract, NameFile, Identify, Withdraw, Close, Judge, LookUp, Total, Answer, told_by, key_of, verdict, acted, done, undone, changed, after, granted, answered, answer, end}
 use Rattle.book.specs.Laws.{Tidy}
 use Rattle.book.proofs.Runs.{end_append}
@@ -116,8 +116,8 @@ agreed_answer c b d t = by (verdict b c) ∙ ap (answered d c) (agreed_verdict c
 
 module _ {V : Type 0} {nil : V} {joined : V → V → V} {inverse : V → V} (laws : Group nil joined inverse) (weight : KeyParts → LifeParts → V) where
   -- the total of what is held is the book's
-  pub held-total : (here book : Book) → Unique here.lives → Unique book.lives → Agrees here book → book_total nil joined weight here ≡ book_total nil joined weight book
-  held-total here book u w t = total-same laws weight here.lives book.lives u w t.same_lives
+  pub held_total : (here book : Book) → Unique here.lives → Unique book.lives → Agrees here book → book_total nil joined weight here ≡ book_total nil joined weight book
+  held_total here book u w t = total_same laws weight here.lives book.lives u w t.same_lives
 
   pub more : (capacity : ℕ) (past : List Call) (c : Call) (was is : Book) (old new : V) (a : Answer) → Unique was.lives → Unique is.lives →
       Step nil joined weight was old c a is new → Follows nil joined weight capacity past was old →
@@ -125,7 +125,7 @@ module _ {V : Type 0} {nil : V} {joined : V → V → V} {inverse : V → V} (la
   more capacity past c was is old new a u w s f =
       let book : Book = book_after capacity past in
       let tidy : Tidy capacity book = tidy_law capacity past in
-      let sound : old ≡ book_total nil joined weight was = f.sums ∙ sym (held-total was book u tidy.no_key_twice f.holds) in
+      let sound : old ≡ book_total nil joined weight was = f.sums ∙ sym (held_total was book u tidy.no_key_twice f.holds) in
       let next : book_after capacity (past ++ c ∷ []) ≡ after book c = end_append past (c ∷ []) (empty_book capacity) in
       let along : Alongside (after was c) (after book c) = agreed_after c was book f.holds in
       let then-tidy : Tidy capacity (book_after capacity (past ++ c ∷ [])) = tidy_law capacity (past ++ c ∷ []) in
@@ -139,5 +139,5 @@ module _ {V : Type 0} {nil : V} {joined : V → V → V} {inverse : V → V} (la
         same_number = length_same is.lives (book_after capacity (past ++ c ∷ [])).lives w then-tidy.no_key_twice lives;
       } in (
         s.says ∙ agreed_answer c was book f.holds,
-        record { holds = agrees; sums = s.keeps_sum sound ∙ held-total is (book_after capacity (past ++ c ∷ [])) w then-tidy.no_key_twice agrees },
+        record { holds = agrees; sums = s.keeps_sum sound ∙ held_total is (book_after capacity (past ++ c ∷ [])) w then-tidy.no_key_twice agrees },
       )

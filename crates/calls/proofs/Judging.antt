@@ -84,14 +84,14 @@ module _ {V : Type 0} (nil : V) (joined : V → V → V) (weight : KeyParts → 
     keeps_sum = λ h. h;
   }
 
-  file-refuses : (was : Book) (t : V) (n : ℕ) (bs : Bytes) (x : TakeFault) → take_refusal {V = Unit {0}} (Err x) ≡ first_fit taking_rows (file_of was.files n) →
+  file_refuses : (was : Book) (t : V) (n : ℕ) (bs : Bytes) (x : TakeFault) → take_refusal {V = Unit {0}} (Err x) ≡ first_fit taking_rows (file_of was.files n) →
       Tried nil joined weight was t n bs (judge_answer (Err (fault.File x))) was t
-  file-refuses was t n bs x e =
+  file_refuses was t n bs x e =
       line_refused was t n bs (take_number x, 0) (line_verdict was n bs ∙ ap (λ o. or_else o (or_else (first_fit looking_rows (bs, told_by was.contracts bs)) (by_lives was (told_by was.contracts bs)))) (sym e))
 
-  line-refuses : (was : Book) (t : V) (n : ℕ) (bs : Bytes) (x : LineFault) → None ≡ first_fit taking_rows (file_of was.files n) → claim_in (Err x) ≡ claiming was.contracts bs →
+  line_refuses : (was : Book) (t : V) (n : ℕ) (bs : Bytes) (x : LineFault) → None ≡ first_fit taking_rows (file_of was.files n) → claim_in (Err x) ≡ claiming was.contracts bs →
       Tried nil joined weight was t n bs (judge_answer (Err (fault.Line x))) was t
-  line-refuses was t n bs x free e =
+  line_refuses was t n bs x free e =
       let y : Told = told_by was.contracts bs in
       let why = no_claim bs (claimed_by y) x (first_fit looking_rows (bs, y)) e in
       let v : verdict was (Judge n bs) ≡ Some (line_fault_number x, line_fault_field x) =
@@ -99,10 +99,10 @@ module _ {V : Type 0} (nil : V) (joined : V → V → V) (weight : KeyParts → 
       subst (λ a. Tried nil joined weight was t n bs a was t) (sym why.1) (line_refused was t n bs (line_fault_number x, line_fault_field x) v)
 
   -- the lives decide
-  acted-so : (was : Book) (n : ℕ) (bs : Bytes) (kind : Kind) (r : Result (Unit {0}) ActFault) (v : Option (ℕ × ℕ)) → verdict was (Judge n bs) ≡ v → refused_by r ≡ v →
+  acted_so : (was : Book) (n : ℕ) (bs : Bytes) (kind : Kind) (r : Result (Unit {0}) ActFault) (v : Option (ℕ × ℕ)) → verdict was (Judge n bs) ≡ v → refused_by r ≡ v →
       judge_answer (acted_result kind bs r) ≡ answer was (Judge n bs)
-  acted-so was n bs kind (Ok u) v e f = ap (answered was (Judge n bs)) (f ∙ sym e)
-  acted-so was n bs kind (Err x) v e f = ap (answered was (Judge n bs)) (f ∙ sym e)
+  acted_so was n bs kind (Ok u) v e f = ap (answered was (Judge n bs)) (f ∙ sym e)
+  acted_so was n bs kind (Err x) v e f = ap (answered was (Judge n bs)) (f ∙ sym e)
 
   lives_so : (was : Book) (n : ℕ) (bs : Bytes) (v : Option (ℕ × ℕ)) →
       let x = told_by was.contracts bs in
@@ -110,14 +110,14 @@ module _ {V : Type 0} (nil : V) (joined : V → V → V) (weight : KeyParts → 
   lives_so was n bs None = refl
   lives_so was n bs (Some r) = refl
 
-  pub lives-decide : (was is : Book) (t s : V) (n : ℕ) (bs : Bytes) (c : code.Claim) (kind : Kind) (r : Result (Unit {0}) ActFault) →
+  pub lives_decide : (was is : Book) (t s : V) (n : ℕ) (bs : Bytes) (c : code.Claim) (kind : Kind) (r : Result (Unit {0}) ActFault) →
       None ≡ first_fit taking_rows (file_of was.files n) → claim_in (Ok c) ≡ claiming was.contracts bs →
       is.entities ≡ was.entities → is.contracts ≡ was.contracts → is.files ≡ was.files → is.capacity ≡ was.capacity →
       refused_by r ≡ refusal was.capacity (key_parts c.key) c.action (life_parts c.told) was.lives →
       Same is.lives (lives_after (refusal was.capacity (key_parts c.key) c.action (life_parts c.told) was.lives) (key_parts c.key) c.action (life_parts c.told) was.lives) →
       (t ≡ book_total nil joined weight was → s ≡ book_total nil joined weight is) →
       Tried nil joined weight was t n bs (judge_answer (acted_result kind bs r)) is s
-  lives-decide was is t s n bs c kind r free e entities contracts files size answers holds sums =
+  lives_decide was is t s n bs c kind r free e entities contracts files size answers holds sums =
       let y : Told = told_by was.contracts bs in
       let claim = a_claim bs (claimed_by y) c (first_fit looking_rows (bs, y)) e in
       let v : verdict was (Judge n bs) ≡ by_lives was y =
@@ -129,7 +129,7 @@ module _ {V : Type 0} (nil : V) (joined : V → V → V) (weight : KeyParts → 
       ∙ ap (λ o. lives_after o (key_of y) y.says.action (claimed_by y).tells was.lives) (sym v)
       ∙ lives_so was n bs (verdict was (Judge n bs)) in
       record {
-        says = acted-so was n bs kind r (by_lives was y) v (answers ∙ same);
+        says = acted_so was n bs kind r (by_lives was y) v (answers ∙ same);
         keeps_capacity = size;
         keeps_entities = entities;
         keeps_contracts = contracts;
@@ -139,13 +139,13 @@ module _ {V : Type 0} (nil : V) (joined : V → V → V) (weight : KeyParts → 
       }
 
   -- the line is counted in its file
-  counted-so : (was : Book) (n : ℕ) (bs : Bytes) (r : Result (Unit {0}) JudgeFault) (v : Option (ℕ × ℕ)) → verdict was (Judge n bs) ≡ v → judge_answer r ≡ answered was (Judge n bs) v →
+  counted_so : (was : Book) (n : ℕ) (bs : Bytes) (r : Result (Unit {0}) JudgeFault) (v : Option (ℕ × ℕ)) → verdict was (Judge n bs) ≡ v → judge_answer r ≡ answered was (Judge n bs) v →
       set was.files n (counted (is_ok r) (file_of was.files n)) ≡ (changed was (Judge n bs) v).files
-  counted-so was n bs (Ok u) None e a =
+  counted_so was n bs (Ok u) None e a =
       ap (λ o. set was.files n (cond (is_some o) (file_of was.files n) (one_accepted (file_of was.files n)))) (passed was n bs e).takes
-  counted-so was n bs (Err x) None e a = let z : ◌≡◌ {A = ℕ} 0 1 = cc in absurd (omega arith)
-  counted-so was n bs (Ok u) (Some y) e a = let z : ◌≡◌ {A = ℕ} 0 1 = cc in absurd (omega arith)
-  counted-so was n bs (Err x) (Some y) e a = refl
+  counted_so was n bs (Err x) None e a = let z : ◌≡◌ {A = ℕ} 0 1 = cc in absurd (omega arith)
+  counted_so was n bs (Ok u) (Some y) e a = let z : ◌≡◌ {A = ℕ} 0 1 = cc in absurd (omega arith)
+  counted_so was n bs (Err x) (Some y) e a = refl
 
   pub counted_step : (was mid : Book) (t s : V) (n : ℕ) (bs : Bytes) (r : Result (Unit {0}) JudgeFault) (ok : Bool) (fs : List File) →
       Tried nil joined weight was t n bs (judge_answer r) mid s → ok ≡ is_ok r → fs ≡ set mid.files n (counted ok (file_of mid.files n)) →
@@ -153,34 +153,34 @@ module _ {V : Type 0} (nil : V) (joined : V → V → V) (weight : KeyParts → 
   counted_step was mid t s n bs r ok fs h o l = record {
     says = h.says;
     keeps_capacity = h.keeps_capacity;
-    makes_entities = h.keeps_entities ∙ by-entities (verdict was (Judge n bs));
-    makes_contracts = h.keeps_contracts ∙ by-contracts (verdict was (Judge n bs));
+    makes_entities = h.keeps_entities ∙ by_entities (verdict was (Judge n bs));
+    makes_contracts = h.keeps_contracts ∙ by_contracts (verdict was (Judge n bs));
     makes_files =
         l
         ∙ ap (λ gs. set gs n (counted ok (file_of gs n))) h.keeps_files
         ∙ ap (λ b. set was.files n (counted b (file_of was.files n))) o
-        ∙ counted-so was n bs r (verdict was (Judge n bs)) refl h.says;
+        ∙ counted_so was n bs r (verdict was (Judge n bs)) refl h.says;
     makes_lives = h.makes_lives;
     keeps_sum = h.keeps_sum;
   }
     where
-      by-entities : (v : Option (ℕ × ℕ)) → was.entities ≡ (changed was (Judge n bs) v).entities
-      by-entities None = refl
-      by-entities (Some y) = refl
+      by_entities : (v : Option (ℕ × ℕ)) → was.entities ≡ (changed was (Judge n bs) v).entities
+      by_entities None = refl
+      by_entities (Some y) = refl
 
-      by-contracts : (v : Option (ℕ × ℕ)) → was.contracts ≡ (changed was (Judge n bs) v).contracts
-      by-contracts None = refl
-      by-contracts (Some y) = refl
+      by_contracts : (v : Option (ℕ × ℕ)) → was.contracts ≡ (changed was (Judge n bs) v).contracts
+      by_contracts None = refl
+      by_contracts (Some y) = refl
 
   -- a refusal that `?` hands on
-  pub file-refused : (was : Book) (t : V) (n : ℕ) (bs : Bytes) (r : Result (Unit {0}) JudgeFault) (x : TakeFault) → IsErrAnd r (λ y. y ≡ fault.File x) → take_refusal {V = Unit {0}} (Err x) ≡ first_fit taking_rows (file_of was.files n) →
+  pub file_refused : (was : Book) (t : V) (n : ℕ) (bs : Bytes) (r : Result (Unit {0}) JudgeFault) (x : TakeFault) → IsErrAnd r (λ y. y ≡ fault.File x) → take_refusal {V = Unit {0}} (Err x) ≡ first_fit taking_rows (file_of was.files n) →
       Tried nil joined weight was t n bs (judge_answer r) was t
-  file-refused was t n bs r x h e =
+  file_refused was t n bs r x h e =
       let p = err_from_is_err_and r h in
-      subst (λ y. Tried nil joined weight was t n bs (judge_answer y) was t) (sym (p.1 ∙ ap Err p.2)) (file-refuses was t n bs x e)
+      subst (λ y. Tried nil joined weight was t n bs (judge_answer y) was t) (sym (p.1 ∙ ap Err p.2)) (file_refuses was t n bs x e)
 
-  pub text-refused : (was : Book) (t : V) (n : ℕ) (bs : Bytes) (r : Result (Unit {0}) JudgeFault) (x : LineFault) → IsErrAnd r (λ y. y ≡ fault.Line x) → None ≡ first_fit taking_rows (file_of was.files n) → claim_in (Err x) ≡ claiming was.contracts bs →
+  pub text_refused : (was : Book) (t : V) (n : ℕ) (bs : Bytes) (r : Result (Unit {0}) JudgeFault) (x : LineFault) → IsErrAnd r (λ y. y ≡ fault.Line x) → None ≡ first_fit taking_rows (file_of was.files n) → claim_in (Err x) ≡ claiming was.contracts bs →
       Tried nil joined weight was t n bs (judge_answer r) was t
-  text-refused was t n bs r x h free e =
+  text_refused was t n bs r x h free e =
       let p = err_from_is_err_and r h in
-      subst (λ y. Tried nil joined weight was t n bs (judge_answer y) was t) (sym (p.1 ∙ ap Err p.2)) (line-refuses was t n bs x free e)
+      subst (λ y. Tried nil joined weight was t n bs (judge_answer y) was t) (sym (p.1 ∙ ap Err p.2)) (line_refuses was t n bs x free e)

@@ -55,89 +55,89 @@ module _ {V : Type 0} (nil : V) (joined : V → V → V) (weight : KeyParts → 
 
   -- ---- Entities and contracts
 
-  entity-says : (b : Book) (bs : Bytes) (r : Result (Unit {0}) EntityFault) (v : Option (ℕ × ℕ)) → refused_by r ≡ v → entity_answer r ≡ answered b (AddEntity bs) v
-  entity-says b bs (Ok u) v e = ap (answered b (AddEntity bs)) e
-  entity-says b bs (Err f) v e = ap (answered b (AddEntity bs)) e
+  entity_says : (b : Book) (bs : Bytes) (r : Result (Unit {0}) EntityFault) (v : Option (ℕ × ℕ)) → refused_by r ≡ v → entity_answer r ≡ answered b (AddEntity bs) v
+  entity_says b bs (Ok u) v e = ap (answered b (AddEntity bs)) e
+  entity_says b bs (Err f) v e = ap (answered b (AddEntity bs)) e
 
-  pub entity-step : (was : Book) (t : V) (bs : Bytes) (r : Result (Unit {0}) EntityFault) (es : List Bytes) →
+  pub entity_step : (was : Book) (t : V) (bs : Bytes) (r : Result (Unit {0}) EntityFault) (es : List Bytes) →
       refused_by r ≡ first_fit entity_list.entity_rows (was.entities, bs) → es ≡ entity_list.added was.entities bs →
       Step nil joined weight was t (AddEntity bs) (entity_answer r) (with_entities was es) t
-  entity-step was t bs r es e l =
-      exactly was (with_entities was es) t (AddEntity bs) (entity_answer r) (entity-says was bs r _ e) (ap (with_entities was) l ∙ sym (entities_after bs was)) refl refl
+  entity_step was t bs r es e l =
+      exactly was (with_entities was es) t (AddEntity bs) (entity_answer r) (entity_says was bs r _ e) (ap (with_entities was) l ∙ sym (entities_after bs was)) refl refl
 
-  contract-says : (b : Book) (bs : Bytes) (n : ℕ) (r : Result ℕ ContractFault) (v : Option (ℕ × ℕ)) → added_in r ≡ settled_by bs n v → contract_answer r ≡ answered b (AddContract bs) v
-  contract-says b bs n (Ok m) None e = refl
-  contract-says b bs n (Ok m) (Some x) e = let z : ◌≡◌ {A = ℕ} 0 1 = cc in absurd (omega arith)
-  contract-says b bs n (Err f) None e = let z : ◌≡◌ {A = ℕ} 0 1 = cc in absurd (omega arith)
-  contract-says b bs n (Err f) (Some x) e = cc
+  contract_says : (b : Book) (bs : Bytes) (n : ℕ) (r : Result ℕ ContractFault) (v : Option (ℕ × ℕ)) → added_in r ≡ settled_by bs n v → contract_answer r ≡ answered b (AddContract bs) v
+  contract_says b bs n (Ok m) None e = refl
+  contract_says b bs n (Ok m) (Some x) e = let z : ◌≡◌ {A = ℕ} 0 1 = cc in absurd (omega arith)
+  contract_says b bs n (Err f) None e = let z : ◌≡◌ {A = ℕ} 0 1 = cc in absurd (omega arith)
+  contract_says b bs n (Err f) (Some x) e = cc
 
-  pub contract-step : (was : Book) (t : V) (bs : Bytes) (r : Result ℕ ContractFault) (cs : List contract_list.Contract) →
+  pub contract_step : (was : Book) (t : V) (bs : Bytes) (r : Result ℕ ContractFault) (cs : List contract_list.Contract) →
       added_in r ≡ contract_list.adding was.contracts bs → cs ≡ contract_list.added was.contracts bs →
       Step nil joined weight was t (AddContract bs) (contract_answer r) (with_contracts was cs) t
-  contract-step was t bs r cs e l =
-      exactly was (with_contracts was cs) t (AddContract bs) (contract_answer r) (contract-says was bs _ r _ e) (ap (with_contracts was) l ∙ sym (contracts_after bs was)) refl refl
+  contract_step was t bs r cs e l =
+      exactly was (with_contracts was cs) t (AddContract bs) (contract_answer r) (contract_says was bs _ r _ e) (ap (with_contracts was) l ∙ sym (contracts_after bs was)) refl refl
 
   -- ---- Files
 
-  files-as : (b : Book) (c : Call) (fs : List File) (v : Option (ℕ × ℕ)) → done b c ≡ with_files b fs → undone b c ≡ b → changed b c v ≡ with_files b (cond (is_some v) b.files fs)
-  files-as b c fs None d u = d
-  files-as b c fs (Some r) d u = u
+  files_as : (b : Book) (c : Call) (fs : List File) (v : Option (ℕ × ℕ)) → done b c ≡ with_files b fs → undone b c ≡ b → changed b c v ≡ with_files b (cond (is_some v) b.files fs)
+  files_as b c fs None d u = d
+  files_as b c fs (Some r) d u = u
 
-  naming-says : {W : Type 0} (b : Book) (bs : Bytes) (r : Result W NamingError) (v : Option (ℕ × ℕ)) → had_memory r ≡ true → name_refusal r ≡ cond (had_memory r) v None → naming_answer r ≡ answered b (NameFile bs) v
-  naming-says b bs (Ok w) v m e = ap (answered b (NameFile bs)) e
-  naming-says b bs (Err (Fault f)) v m e = ap (answered b (NameFile bs)) e
-  naming-says b bs (Err NoMemory) v m e = let z : ◌≡◌ {A = Bool} false true = m in let y : ◌≡◌ {A = ℕ} 0 1 = ap (λ x. cond x 1 0) z in absurd (omega arith)
+  naming_says : {W : Type 0} (b : Book) (bs : Bytes) (r : Result W NamingError) (v : Option (ℕ × ℕ)) → had_memory r ≡ true → name_refusal r ≡ cond (had_memory r) v None → naming_answer r ≡ answered b (NameFile bs) v
+  naming_says b bs (Ok w) v m e = ap (answered b (NameFile bs)) e
+  naming_says b bs (Err (Fault f)) v m e = ap (answered b (NameFile bs)) e
+  naming_says b bs (Err NoMemory) v m e = let z : ◌≡◌ {A = Bool} false true = m in let y : ◌≡◌ {A = ℕ} 0 1 = ap (λ x. cond x 1 0) z in absurd (omega arith)
 
-  pub naming-step : {W : Type 0} (was : Book) (t : V) (bs : Bytes) (r : Result W NamingError) (fs : List File) → had_memory r ≡ true →
+  pub naming_step : {W : Type 0} (was : Book) (t : V) (bs : Bytes) (r : Result W NamingError) (fs : List File) → had_memory r ≡ true →
       name_refusal r ≡ cond (had_memory r) (first_fit naming_rows bs) None → fs ≡ cond (had_memory r) (named_in was.files bs) was.files →
       Step nil joined weight was t (NameFile bs) (naming_answer r) (with_files was fs) t
-  naming-step was t bs r fs m e l =
-      exactly was (with_files was fs) t (NameFile bs) (naming_answer r) (naming-says was bs r _ m e)
-      (ap (with_files was) (l ∙ ap (λ x. cond x (named_in was.files bs) was.files) m) ∙ sym (files-as was (NameFile bs) _ (first_fit naming_rows bs) refl refl)) refl refl
+  naming_step was t bs r fs m e l =
+      exactly was (with_files was fs) t (NameFile bs) (naming_answer r) (naming_says was bs r _ m e)
+      (ap (with_files was) (l ∙ ap (λ x. cond x (named_in was.files bs) was.files) m) ∙ sym (files_as was (NameFile bs) _ (first_fit naming_rows bs) refl refl)) refl refl
 
-  identify-says : (b : Book) (n : ℕ) (bs : Bytes) (r : Result (Unit {0}) IdentifyFault) (v : Option (ℕ × ℕ)) → identify_refusal r ≡ v → identify_answer r ≡ answered b (Identify n bs) v
-  identify-says b n bs (Ok u) v e = ap (answered b (Identify n bs)) e
-  identify-says b n bs (Err f) v e = ap (answered b (Identify n bs)) e
+  identify_says : (b : Book) (n : ℕ) (bs : Bytes) (r : Result (Unit {0}) IdentifyFault) (v : Option (ℕ × ℕ)) → identify_refusal r ≡ v → identify_answer r ≡ answered b (Identify n bs) v
+  identify_says b n bs (Ok u) v e = ap (answered b (Identify n bs)) e
+  identify_says b n bs (Err f) v e = ap (answered b (Identify n bs)) e
 
-  token-says : {W : Type 0} (b : Book) (n : ℕ) (bs : Bytes) (r : Result W (IdentifyFault × NamedFile)) (v : Option (ℕ × ℕ)) → token_refusal r ≡ v → token_answer r ≡ answered b (Identify n bs) v
-  token-says b n bs (Ok w) v e = ap (answered b (Identify n bs)) e
-  token-says b n bs (Err f) v e = ap (answered b (Identify n bs)) e
+  token_says : {W : Type 0} (b : Book) (n : ℕ) (bs : Bytes) (r : Result W (IdentifyFault × NamedFile)) (v : Option (ℕ × ℕ)) → token_refusal r ≡ v → token_answer r ≡ answered b (Identify n bs) v
+  token_says b n bs (Ok w) v e = ap (answered b (Identify n bs)) e
+  token_says b n bs (Err f) v e = ap (answered b (Identify n bs)) e
 
-  identified-step : (was : Book) (t : V) (n : ℕ) (bs : Bytes) (a : Answer) (fs : List File) → a ≡ answer was (Identify n bs) → fs ≡ identified_in was.entities was.files n bs →
+  identified_step : (was : Book) (t : V) (n : ℕ) (bs : Bytes) (a : Answer) (fs : List File) → a ≡ answer was (Identify n bs) → fs ≡ identified_in was.entities was.files n bs →
       Step nil joined weight was t (Identify n bs) a (with_files was fs) t
-  identified-step was t n bs a fs e l =
+  identified_step was t n bs a fs e l =
       exactly was (with_files was fs) t (Identify n bs) a e
-      (ap (with_files was) l ∙ sym (files-as was (Identify n bs) _ (first_fit identifying_rows (was.entities, file_of was.files n, bs)) refl refl)) refl refl
+      (ap (with_files was) l ∙ sym (files_as was (Identify n bs) _ (first_fit identifying_rows (was.entities, file_of was.files n, bs)) refl refl)) refl refl
 
-  pub identify-step : (was : Book) (t : V) (n : ℕ) (bs : Bytes) (r : Result (Unit {0}) IdentifyFault) (fs : List File) →
+  pub identify_step : (was : Book) (t : V) (n : ℕ) (bs : Bytes) (r : Result (Unit {0}) IdentifyFault) (fs : List File) →
       identify_refusal r ≡ first_fit identifying_rows (was.entities, file_of was.files n, bs) → fs ≡ identified_in was.entities was.files n bs →
       Step nil joined weight was t (Identify n bs) (identify_answer r) (with_files was fs) t
-  identify-step was t n bs r fs e l = identified-step was t n bs (identify_answer r) fs (identify-says was n bs r _ e) l
+  identify_step was t n bs r fs e l = identified_step was t n bs (identify_answer r) fs (identify_says was n bs r _ e) l
 
-  pub token-step : {W : Type 0} (was : Book) (t : V) (n : ℕ) (bs : Bytes) (r : Result W (IdentifyFault × NamedFile)) (fs : List File) →
+  pub token_step : {W : Type 0} (was : Book) (t : V) (n : ℕ) (bs : Bytes) (r : Result W (IdentifyFault × NamedFile)) (fs : List File) →
       token_refusal r ≡ first_fit identifying_rows (was.entities, file_of was.files n, bs) → fs ≡ identified_in was.entities was.files n bs →
       Step nil joined weight was t (Identify n bs) (token_answer r) (with_files was fs) t
-  token-step was t n bs r fs e l = identified-step was t n bs (token_answer r) fs (token-says was n bs r _ e) l
+  token_step was t n bs r fs e l = identified_step was t n bs (token_answer r) fs (token_says was n bs r _ e) l
 
   -- a file ends, with its counts for a receipt
-  ending-says : (b : Book) (c : Call) (f : File) (r : Result Receipt PlaceFault) (v : Option (ℕ × ℕ)) → text_of c ≡ [] → granted b c ≡ receipt f →
+  ending_says : (b : Book) (c : Call) (f : File) (r : Result Receipt PlaceFault) (v : Option (ℕ × ℕ)) → text_of c ≡ [] → granted b c ≡ receipt f →
       place_refusal r ≡ v → IfOk r (λ x. x ≡ receipt_of f) → ending_answer r ≡ answered b c v
-  ending-says b c f (Ok x) v empty g e m = ap receipt_said m ∙ sym g ∙ ap (answered b c) e
-  ending-says b c f (Err x) v empty g e m = ap (λ bs. Refused (place_number x) 0 (start 0 (fields bs))) (sym empty) ∙ ap (answered b c) e
+  ending_says b c f (Ok x) v empty g e m = ap receipt_said m ∙ sym g ∙ ap (answered b c) e
+  ending_says b c f (Err x) v empty g e m = ap (λ bs. Refused (place_number x) 0 (start 0 (fields bs))) (sym empty) ∙ ap (answered b c) e
 
-  pub withdraw-step : (was : Book) (t : V) (n : ℕ) (r : Result Receipt PlaceFault) (fs : List File) →
+  pub withdraw_step : (was : Book) (t : V) (n : ℕ) (r : Result Receipt PlaceFault) (fs : List File) →
       place_refusal r ≡ first_fit withdrawing_rows (file_of was.files n) → IfOk r (λ x. x ≡ receipt_of (file_of was.files n)) → fs ≡ withdrawn_in was.files n →
       Step nil joined weight was t (Withdraw n) (ending_answer r) (with_files was fs) t
-  withdraw-step was t n r fs e m l =
-      exactly was (with_files was fs) t (Withdraw n) (ending_answer r) (ending-says was (Withdraw n) (file_of was.files n) r _ refl refl e m)
-      (ap (with_files was) l ∙ sym (files-as was (Withdraw n) _ (first_fit withdrawing_rows (file_of was.files n)) refl refl)) refl refl
+  withdraw_step was t n r fs e m l =
+      exactly was (with_files was fs) t (Withdraw n) (ending_answer r) (ending_says was (Withdraw n) (file_of was.files n) r _ refl refl e m)
+      (ap (with_files was) l ∙ sym (files_as was (Withdraw n) _ (first_fit withdrawing_rows (file_of was.files n)) refl refl)) refl refl
 
-  pub close-step : (was : Book) (t : V) (n : ℕ) (r : Result Receipt PlaceFault) (fs : List File) →
+  pub close_step : (was : Book) (t : V) (n : ℕ) (r : Result Receipt PlaceFault) (fs : List File) →
       place_refusal r ≡ first_fit closing_rows (file_of was.files n) → IfOk r (λ x. x ≡ receipt_of (file_of was.files n)) → fs ≡ closed_in was.files n →
       Step nil joined weight was t (Close n) (ending_answer r) (with_files was fs) t
-  close-step was t n r fs e m l =
-      exactly was (with_files was fs) t (Close n) (ending_answer r) (ending-says was (Close n) (file_of was.files n) r _ refl refl e m)
-      (ap (with_files was) l ∙ sym (files-as was (Close n) _ (first_fit closing_rows (file_of was.files n)) refl refl)) refl refl
+  close_step was t n r fs e m l =
+      exactly was (with_files was fs) t (Close n) (ending_answer r) (ending_says was (Close n) (file_of was.files n) r _ refl refl e m)
+      (ap (with_files was) l ∙ sym (files_as was (Close n) _ (first_fit closing_rows (file_of was.files n)) refl refl)) refl refl
 
   -- ---- Looking up, and the total: nothing changes
 
@@ -145,21 +145,21 @@ module _ {V : Type 0} (nil : V) (joined : V → V → V) (weight : KeyParts → 
   unchanged b c d u None = d
   unchanged b c d u (Some r) = u
 
-  finding-says : (b : Book) (bs : Bytes) (x : Result Claim LineFault) (r : Result (Option Life) LineFault) (v : Option (ℕ × ℕ)) →
+  finding_says : (b : Book) (bs : Bytes) (x : Result Claim LineFault) (r : Result (Option Life) LineFault) (v : Option (ℕ × ℕ)) →
       claim_in x ≡ settled_by bs (claimed_by (told_by b.contracts bs)) v → Finds b x r → finding_answer r ≡ answered b (LookUp bs) v
-  finding-says b bs (Ok c) (Ok o) None e f = ap Found (f ∙ ap (λ k. look k b.lives) (ap (λ q. q.of_key) (let z : claim_of c ≡ claimed_by (told_by b.contracts bs) = cc in z)))
-  finding-says b bs (Ok c) (Err x) None e f = absurd f
-  finding-says b bs (Err x) (Ok o) None e f = absurd f
-  finding-says b bs (Err x) (Err y) None e f = let z : ◌≡◌ {A = ℕ} 0 1 = cc in absurd (omega arith)
-  finding-says b bs (Ok c) (Ok o) (Some w) e f = let z : ◌≡◌ {A = ℕ} 0 1 = cc in absurd (omega arith)
-  finding-says b bs (Ok c) (Err x) (Some w) e f = absurd f
-  finding-says b bs (Err x) (Ok o) (Some w) e f = absurd f
-  finding-says b bs (Err x) (Err y) (Some w) e f = cc
+  finding_says b bs (Ok c) (Ok o) None e f = ap Found (f ∙ ap (λ k. look k b.lives) (ap (λ q. q.of_key) (let z : claim_of c ≡ claimed_by (told_by b.contracts bs) = cc in z)))
+  finding_says b bs (Ok c) (Err x) None e f = absurd f
+  finding_says b bs (Err x) (Ok o) None e f = absurd f
+  finding_says b bs (Err x) (Err y) None e f = let z : ◌≡◌ {A = ℕ} 0 1 = cc in absurd (omega arith)
+  finding_says b bs (Ok c) (Ok o) (Some w) e f = let z : ◌≡◌ {A = ℕ} 0 1 = cc in absurd (omega arith)
+  finding_says b bs (Ok c) (Err x) (Some w) e f = absurd f
+  finding_says b bs (Err x) (Ok o) (Some w) e f = absurd f
+  finding_says b bs (Err x) (Err y) (Some w) e f = cc
 
-  pub look-step : (was : Book) (t : V) (bs : Bytes) (x : Result Claim LineFault) (r : Result (Option Life) LineFault) →
+  pub look_step : (was : Book) (t : V) (bs : Bytes) (x : Result Claim LineFault) (r : Result (Option Life) LineFault) →
       claim_in x ≡ claiming was.contracts bs → Finds was x r → Step nil joined weight was t (LookUp bs) (finding_answer r) was t
-  look-step was t bs x r e f =
-      exactly was was t (LookUp bs) (finding_answer r) (finding-says was bs x r _ e f) (sym (unchanged was (LookUp bs) refl refl (verdict was (LookUp bs)))) refl refl
+  look_step was t bs x r e f =
+      exactly was was t (LookUp bs) (finding_answer r) (finding_says was bs x r _ e f) (sym (unchanged was (LookUp bs) refl refl (verdict was (LookUp bs)))) refl refl
 
-  pub total-step : (was : Book) (t : V) → Step nil joined weight was t Total Accepted was t
-  total-step was t = exactly was was t Total Accepted refl refl refl refl
+  pub total_step : (was : Book) (t : V) → Step nil joined weight was t Total Accepted was t
+  total_step was t = exactly was was t Total Accepted refl refl refl refl

@@ -23,9 +23,9 @@ telling_append t (LookUp bs) xs ys = refl
 telling_append t Total xs ys = refl
 
 module _ {V : Type 0} (nil : V) (joined : V → V → V) (weight : KeyParts → LifeParts → V) where
-  totals-append : (xs ys : List Call) (b : Book) → totals nil joined weight b (xs ++ ys) ≡ totals nil joined weight b xs ++ totals nil joined weight (end b xs) ys
-  totals-append [] ys b = refl
-  totals-append (c ∷ xs) ys b = ap (telling (book_total nil joined weight b) c) (totals-append xs ys (after b c)) ∙ telling_append _ c _ _
+  totals_append : (xs ys : List Call) (b : Book) → totals nil joined weight b (xs ++ ys) ≡ totals nil joined weight b xs ++ totals nil joined weight (end b xs) ys
+  totals_append [] ys b = refl
+  totals_append (c ∷ xs) ys b = ap (telling (book_total nil joined weight b) c) (totals_append xs ys (after b c)) ∙ telling_append _ c _ _
 
   -- one call more of a run
   pub run_more : (capacity : ℕ) (past : List Call) (c : Call) (said : List Answer) (told : List V) (a : Answer) (was is : Book) (old new : V) →
@@ -33,16 +33,16 @@ module _ {V : Type 0} (nil : V) (joined : V → V → V) (weight : KeyParts → 
       (a ≡ answer (book_after capacity past) c) × Follows nil joined weight capacity (past ++ c ∷ []) is new →
       Ran nil joined weight capacity (past ++ c ∷ []) (said ++ a ∷ []) (told ++ telling old c []) is new
   run_more capacity past c said told a was is old new r s = record {
-    same-answers = ap (λ xs. xs ++ a ∷ []) r.same-answers ∙ ap (λ y. answers (empty_book capacity) past ++ y ∷ []) s.0 ∙ sym (answers_append past (c ∷ []) (empty_book capacity));
-    same-totals = ap (λ xs. xs ++ telling old c []) r.same-totals ∙ ap (λ t. totals nil joined weight (empty_book capacity) past ++ telling t c []) r.follows.sums ∙ sym (totals-append past (c ∷ []) (empty_book capacity));
+    same_answers = ap (λ xs. xs ++ a ∷ []) r.same_answers ∙ ap (λ y. answers (empty_book capacity) past ++ y ∷ []) s.0 ∙ sym (answers_append past (c ∷ []) (empty_book capacity));
+    same_totals = ap (λ xs. xs ++ telling old c []) r.same_totals ∙ ap (λ t. totals nil joined weight (empty_book capacity) past ++ telling t c []) r.follows.sums ∙ sym (totals_append past (c ∷ []) (empty_book capacity));
     follows = s.1;
   }
 
 -- ---- What a reply tells of the call
 
 module _ {V : Type 0} where
-  total-apart : (a x : Answer) (t : V) → Answering x ≡ Totalling t → ⊥
-  total-apart a x t e = let z : ◌≡◌ {A = ℕ} 0 1 = cc in omega arith
+  total_apart : (a x : Answer) (t : V) → Answering x ≡ Totalling t → ⊥
+  total_apart a x t e = let z : ◌≡◌ {A = ℕ} 0 1 = cc in omega arith
 
   -- a call that is answered is none for the total
   answering : (c : Call) (x a : Answer) (t : V) → Answering x ≡ replied c a t → (x ≡ a) × ((s : V) → telling s c [] ≡ [])
@@ -54,36 +54,36 @@ module _ {V : Type 0} where
   answering (Close n) x a t e = (cc, λ s. refl)
   answering (Judge n bs) x a t e = (cc, λ s. refl)
   answering (LookUp bs) x a t e = (cc, λ s. refl)
-  answering Total x a t e = absurd (total-apart a x t e)
+  answering Total x a t e = absurd (total_apart a x t e)
 
   -- a call that is told a total asked for it
   totalling : (c : Call) (x : V) (a : Answer) (t : V) → Totalling x ≡ replied c a t → (c ≡ Total) × (x ≡ t)
-  totalling (AddEntity bs) x a t e = absurd (total-apart a a x (sym e))
-  totalling (AddContract bs) x a t e = absurd (total-apart a a x (sym e))
-  totalling (NameFile bs) x a t e = absurd (total-apart a a x (sym e))
-  totalling (Identify n bs) x a t e = absurd (total-apart a a x (sym e))
-  totalling (Withdraw n) x a t e = absurd (total-apart a a x (sym e))
-  totalling (Close n) x a t e = absurd (total-apart a a x (sym e))
-  totalling (Judge n bs) x a t e = absurd (total-apart a a x (sym e))
-  totalling (LookUp bs) x a t e = absurd (total-apart a a x (sym e))
+  totalling (AddEntity bs) x a t e = absurd (total_apart a a x (sym e))
+  totalling (AddContract bs) x a t e = absurd (total_apart a a x (sym e))
+  totalling (NameFile bs) x a t e = absurd (total_apart a a x (sym e))
+  totalling (Identify n bs) x a t e = absurd (total_apart a a x (sym e))
+  totalling (Withdraw n) x a t e = absurd (total_apart a a x (sym e))
+  totalling (Close n) x a t e = absurd (total_apart a a x (sym e))
+  totalling (Judge n bs) x a t e = absurd (total_apart a a x (sym e))
+  totalling (LookUp bs) x a t e = absurd (total_apart a a x (sym e))
   totalling Total x a t e = (refl, cc)
 
 module _ {V : Type 0} (nil : V) (joined : V → V → V) (weight : KeyParts → LifeParts → V) (capacity : ℕ) (past : List Call) (c : Call) (said : List Spoken) (told : List V) (was is : Book) (old new : V) where
   -- a run that goes on with an answer
-  pub goes-answered : (x : Spoken) (next : List Spoken) → next ≡ said ++ x ∷ [] → Ran nil joined weight capacity past (answers_said said) told was old →
+  pub goes_answered : (x : Spoken) (next : List Spoken) → next ≡ said ++ x ∷ [] → Ran nil joined weight capacity past (answers_said said) told was old →
       (Answering (answer_said x) ≡ reply nil joined weight (book_after capacity past) c) × Follows nil joined weight capacity (past ++ c ∷ []) is new →
       Ran nil joined weight capacity (past ++ c ∷ []) (answers_said next) told is new
-  goes-answered x next e r s =
+  goes_answered x next e r s =
       let w = answering c (answer_said x) (answer (book_after capacity past) c) (book_total nil joined weight (book_after capacity past)) s.0 in
       let more = run_more nil joined weight capacity past c (answers_said said) told (answer_said x) was is old new r (w.0, s.1) in
       subst (λ xs. Ran nil joined weight capacity (past ++ c ∷ []) xs told is new) (sym (ap answers_said e ∙ map-append answer_said said (x ∷ [])))
       (subst (λ ts. Ran nil joined weight capacity (past ++ c ∷ []) (answers_said said ++ answer_said x ∷ []) ts is new) (ap (λ ts. told ++ ts) (w.1 old) ∙ append-nil told) more)
 
   -- and one that goes on with a total
-  pub goes-totalled : (t : V) (x : Spoken) (next : List Spoken) (later : List V) → answer_said x ≡ Accepted → next ≡ said ++ x ∷ [] → later ≡ told ++ t ∷ [] → Ran nil joined weight capacity past (answers_said said) told was old →
+  pub goes_totalled : (t : V) (x : Spoken) (next : List Spoken) (later : List V) → answer_said x ≡ Accepted → next ≡ said ++ x ∷ [] → later ≡ told ++ t ∷ [] → Ran nil joined weight capacity past (answers_said said) told was old →
       (Totalling t ≡ reply nil joined weight (book_after capacity past) c) × Follows nil joined weight capacity (past ++ c ∷ []) is new →
       Ran nil joined weight capacity (past ++ c ∷ []) (answers_said next) later is new
-  goes-totalled t x next later ok e d r s =
+  goes_totalled t x next later ok e d r s =
       let w = totalling c t (answer (book_after capacity past) c) (book_total nil joined weight (book_after capacity past)) s.0 in
       let a : answer_said x ≡ answer (book_after capacity past) c = ok ∙ ap (answer (book_after capacity past)) (sym w.0) in
       let more = run_more nil joined weight capacity past c (answers_said said) told (answer_said x) was is old new r (a, s.1) in

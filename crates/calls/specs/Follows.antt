@@ -33,6 +33,6 @@ module _ {V : Type 0} (nil : V) (joined : V → V → V) (weight : KeyParts → 
   -- law (a): a new checker with room for so many lives was given these calls. Its answers, and the totals that it was asked for, are the book's;
   -- it holds what the book holds, and its total is the joined weights of the book's open lives
   pub record Ran (capacity : ℕ) (calls : List Call) (said : List Answer) (told : List V) (here : Book) (sum : V) : Type 0 where
-    pub same-answers : said ≡ answers (empty_book capacity) calls
-    pub same-totals : told ≡ totals nil joined weight (empty_book capacity) calls
+    pub same_answers : said ≡ answers (empty_book capacity) calls
+    pub same_totals : told ≡ totals nil joined weight (empty_book capacity) calls
     pub follows : Follows capacity calls here sum

@@ -56,42 +56,42 @@ module _ (s u v t : List Slot) (c : ℕ) (k : Key) (l : Life) (b : ℕ)
   next_else : (m : ℕ) → 0 < m → m ≤ c → (at t m).next ≡ (at s m).next
   next_else m p h = three.next_else m p (λ e. omega arith) ∙ two.nexts m ∙ one.next_else m p (λ e. omega arith)
 
-  head-here : (at t b).head ≡ c + 1
-  head-here = three.head_at refl
+  head_here : (at t b).head ≡ c + 1
+  head_here = three.head_at refl
 
   head_else : (m : ℕ) → (m ≡ b → ⊥) → (at t m).head ≡ (at s m).head
   head_else m n = three.head_else m (λ _ e. n e) ∙ two.heads m ∙ one.head_else m (λ z e. omega arith)
 
-  chain-here : chain_at t (c + 1) ≡ b
-  chain-here = chain_same s t (c + 1) k size key_here ∙ sym is
+  chain_here : chain_at t (c + 1) ≡ b
+  chain_here = chain_same s t (c + 1) k size key_here ∙ sym is
 
-  chain-else : (m : ℕ) → m ≤ c → chain_at t m ≡ chain_at s m
-  chain-else m h = chain_same s t m _ size (key_else m h)
+  chain_else : (m : ℕ) → m ≤ c → chain_at t m ≡ chain_at s m
+  chain_else m h = chain_same s t m _ size (key_else m h)
 
   nexts : (j : ℕ) → 0 < j → j ≤ c + 1 → 0 < chain_at t j → Prev (chain_at t) (chain_at t j) j (at t j).next
   nexts j p h q =
       ⊎_elim
       (λ e. subst (λ n. Prev (chain_at t) (chain_at t n) n (at t n).next) (sym e)
-      (prev_to (old.linked.heads b low high) chain-here next_here (λ m w. chain-else m (omega arith))))
+      (prev_to (old.linked.heads b low high) chain_here next_here (λ m w. chain_else m (omega arith))))
       (λ n. let w : j ≤ c = omega arith in
-      prev_to (old.linked.nexts j p w (omega arith)) (chain-else j w) (next_else j p w) (λ m z. chain-else m (omega arith)))
+      prev_to (old.linked.nexts j p w (omega arith)) (chain_else j w) (next_else j p w) (λ m z. chain_else m (omega arith)))
       (cases_eq j (c + 1))
 
   heads : (d : ℕ) → 0 < d → d < length t → Prev (chain_at t) d (c + 1 + 1) (at t d).head
   heads d p h =
       ⊎_elim
       (λ e. subst (λ n. Prev (chain_at t) n (c + 1 + 1) (at t n).head) (sym e)
-      (record { below = omega (arith, head-here); hit = λ _. ap (chain_at t) head-here ∙ chain-here; gap = λ m w z _. omega (arith, head-here) }))
+      (record { below = omega (arith, head_here); hit = λ _. ap (chain_at t) head_here ∙ chain_here; gap = λ m w z _. omega (arith, head_here) }))
       (λ n.
       let r = old.linked.heads d p (omega (arith, size)) in
       let same = head_else d n in
       record {
         below = omega (arith, same, r.below);
-        hit = λ z. ap (chain_at t) same ∙ chain-else _ (omega (arith, r.below)) ∙ r.hit (omega (arith, same));
+        hit = λ z. ap (chain_at t) same ∙ chain_else _ (omega (arith, r.below)) ∙ r.hit (omega (arith, same));
         gap = λ m w z q.
             ⊎_elim
-            (λ e. n (sym q ∙ ap (chain_at t) e ∙ chain-here))
-            (λ y. r.gap m (omega (arith, same)) (omega arith) (sym (chain-else m (omega arith)) ∙ q))
+            (λ e. n (sym q ∙ ap (chain_at t) e ∙ chain_here))
+            (λ y. r.gap m (omega (arith, same)) (omega arith) (sym (chain_else m (omega arith)) ∙ q))
             (cases_eq m (c + 1));
       })
       (cases_eq d b)
@@ -111,8 +111,8 @@ module _ (s u v t : List Slot) (c : ℕ) (k : Key) (l : Life) (b : ℕ)
     apart = apart;
   }
 
-  pub added-pairs : pairs_of t (c + 1) ≡ (k, l) ∷ pairs_of s c
-  added-pairs =
+  pub added_pairs : pairs_of t (c + 1) ≡ (k, l) ∷ pairs_of s c
+  added_pairs =
       let lh : (at t (c + 1)).life ≡ l = three.lives (c + 1) ∙ two.life_at in
       let rest = pairs_same s t c (λ m p q. key_else m q) (λ m p q. life_else m q) in
       let front : (n : ℕ) → n ≡ suc c → pairs_of t n ≡ ((at t n).key, (at t n).life) ∷ pairs_of t c = λ n e. subst (λ x. pairs_of t x ≡ ((at t x).key, (at t x).life) ∷ pairs_of t c) (sym e) refl in
@@ -140,8 +140,8 @@ module _ {K : ℕ → ℕ} {s : List Slot} {c b i p : ℕ} (k : Linked K s c) (a
       (cases_eq p 0)))
       (cases_order j p)
 
-  only-head : (at s b).head ≤ i → p ≡ 0
-  only-head n =
+  only_head : (at s b).head ≤ i → p ≡ 0
+  only_head n =
       ⊎_elim
       (λ z. z)
       (λ z. absurd ((k.heads b low high).gap p (omega (arith, at_p.above (omega arith))) (omega (arith, at_p.within)) (at_p.chained K k (omega arith))))
@@ -152,8 +152,8 @@ module _ {K : ℕ → ℕ} {s : List Slot} {c b i p : ℕ} (k : Linked K s c) (a
   clear_next z m l h e =
       (k.nexts p z at_p.within (omega (arith, at_p.chained K k z))).gap m (omega (arith, at_p.later z)) h (e ∙ sym (at_p.chained K k z))
 
-  clear-head : p ≡ 0 → (m : ℕ) → i < m → m < c + 1 → K m ≡ b → ⊥
-  clear-head z m l h e = (k.heads b low high).gap m (omega (arith, at_p.first z)) h e
+  clear_head : p ≡ 0 → (m : ℕ) → i < m → m < c + 1 → K m ≡ b → ⊥
+  clear_head z m l h e = (k.heads b low high).gap m (omega (arith, at_p.first z)) h e
 
 -- i leaves its chain
 module _ {K : ℕ → ℕ} {i : ℕ} where
@@ -237,9 +237,9 @@ module _ {K : ℕ → ℕ} (s t : List Slot) (c b i p : ℕ) (k : Linked K s c) 
         let kd = k.heads d z dh in
         ⊎_elim
         (λ y. ⊎_elim
-        (λ x. named (skip (named (k.nexts i some within (omega arith)) (sym here) refl) low (omega arith) (clear-head k at_p low high some within x))
+        (λ x. named (skip (named (k.nexts i some within (omega arith)) (sym here) refl) low (omega arith) (clear_head k at_p low high some within x))
         y (ap (λ n. (at t n).head) y ∙ w.head_at x))
-        (λ x. named (stay kd z (λ f. x (only-head k at_p low high some within (omega (arith, ap (λ n. (at s n).head) y))))) refl (w.head_else d (λ q _. x q)))
+        (λ x. named (stay kd z (λ f. x (only_head k at_p low high some within (omega (arith, ap (λ n. (at s n).head) y))))) refl (w.head_else d (λ q _. x q)))
         (cases_eq p 0))
         (λ y. named (stay kd z (λ f. y (sym (kd.hit (omega arith)) ∙ ap K f ∙ here))) refl (w.head_else d (λ _ q. y q)))
         (cases_eq d b);
@@ -252,7 +252,7 @@ module _ {K : ℕ → ℕ} (s t : List Slot) (c b i p : ℕ) (k : Linked K s c) 
         ⊎_elim
         (λ y.
         subst (λ n. Prev (re K i b) (re K i b n) n (at t n).next) (sym y)
-        (named own-link (re_same K i b i refl) (x.next_else i some i≢p ∙ w.next_at some)))
+        (named own_link (re_same K i b i refl) (x.next_else i some i≢p ∙ w.next_at some)))
         (λ n.
         let e = re_else K i b j n in
         let kj = k.nexts j z h (omega arith) in
@@ -270,8 +270,8 @@ module _ {K : ℕ → ℕ} (s t : List Slot) (c b i p : ℕ) (k : Linked K s c) 
         let kd = k.heads d z (omega (arith, w.size, x.size)) in
         ⊎_elim
         (λ y. ⊎_elim
-        (λ o. named (join (omega arith) (clear-head k at_p low high some within o)) y (ap (λ n. (at t n).head) y ∙ x.head_at o))
-        (λ o. named (pass kd z none (λ _ l _. o (only-head k at_p low high some within (omega (arith, ap (λ n. (at s n).head) y))))) refl
+        (λ o. named (join (omega arith) (clear_head k at_p low high some within o)) y (ap (λ n. (at t n).head) y ∙ x.head_at o))
+        (λ o. named (pass kd z none (λ _ l _. o (only_head k at_p low high some within (omega (arith, ap (λ n. (at s n).head) y))))) refl
         (x.head_else d (λ q _. o q) ∙ w.head_else d (λ q _. omega arith)))
         (cases_eq p 0))
         (λ y. named (pass kd z none (λ q _ _. y q)) refl (x.head_else d (λ _ q. y q) ∙ w.head_else d (λ _ q. y q)))
@@ -281,8 +281,8 @@ module _ {K : ℕ → ℕ} (s t : List Slot) (c b i p : ℕ) (k : Linked K s c) 
       i≢p : i ≡ p → ⊥
       i≢p e = omega (arith, at_p.above (omega arith))
 
-      own-link : Prev (re K i b) b i v
-      own-link =
+      own_link : Prev (re K i b) b i v
+      own_link =
           ⊎_elim
           (λ o.
           let l = k.heads b low high in

@@ -67,24 +67,24 @@ module _ (s t : List Slot) (c i : ℕ) (moved : Moved s t c i) (some : 0 < i) (w
       (λ n. (m, z, omega arith, n, moved.key_else m h n))
       (cases_eq m i)
 
-  apart-any : (x y : ℕ) → 0 < x → x ≤ c → 0 < y → y ≤ c → (x ≡ y → ⊥) → (at s x).key ≡ (at s y).key → ⊥
-  apart-any x y p q v w n e =
+  apart_any : (x y : ℕ) → 0 < x → x ≤ c → 0 < y → y ≤ c → (x ≡ y → ⊥) → (at s x).key ≡ (at s y).key → ⊥
+  apart_any x y p q v w n e =
       ⊎_elim n (⊎_elim (λ l. apart x y p l w e) (λ l. apart y x v l q (sym e))) (cases_order x y)
 
-  pub apart-moved : (x y : ℕ) → 0 < x → x < y → y ≤ c - 1 → (at t x).key ≡ (at t y).key → ⊥
-  apart-moved x y p l h e =
+  pub apart_moved : (x y : ℕ) → 0 < x → x < y → y ≤ c - 1 → (at t x).key ≡ (at t y).key → ⊥
+  apart_moved x y p l h e =
       ⊎_elim
-      (λ q. apart-any c y (omega arith) (omega arith) (omega arith) (omega arith) (λ o. omega arith) (sym (moved.key_at (omega arith)) ∙ ap (λ n. (at t n).key) (sym q) ∙ e ∙ moved.key_else y (omega arith) (λ o. omega arith)))
+      (λ q. apart_any c y (omega arith) (omega arith) (omega arith) (omega arith) (λ o. omega arith) (sym (moved.key_at (omega arith)) ∙ ap (λ n. (at t n).key) (sym q) ∙ e ∙ moved.key_else y (omega arith) (λ o. omega arith)))
       (λ n. ⊎_elim
-      (λ q. apart-any x c p (omega arith) (omega arith) (omega arith) (λ o. omega arith) (sym (moved.key_else x (omega arith) n) ∙ e ∙ ap (λ n. (at t n).key) q ∙ moved.key_at (omega arith)))
-      (λ o. apart-any x y p (omega arith) (omega arith) (omega arith) (λ o. omega arith) (sym (moved.key_else x (omega arith) n) ∙ e ∙ moved.key_else y (omega arith) o))
+      (λ q. apart_any x c p (omega arith) (omega arith) (omega arith) (λ o. omega arith) (sym (moved.key_else x (omega arith) n) ∙ e ∙ ap (λ n. (at t n).key) q ∙ moved.key_at (omega arith)))
+      (λ o. apart_any x y p (omega arith) (omega arith) (omega arith) (λ o. omega arith) (sym (moved.key_else x (omega arith) n) ∙ e ∙ moved.key_else y (omega arith) o))
       (cases_eq y i))
       (cases_eq x i)
 
   none_here : lookup (at s i).key (pairs_of t (c - 1)) ≡ None
   none_here = lookup_none t _ (c - 1) (λ m z h e.
       let f = from m z (omega arith) in
-      apart-any f.0 i f.1 f.2 some within f.3 (sym f.4 ∙ e))
+      apart_any f.0 i f.1 f.2 some within f.3 (sym f.4 ∙ e))
 
   else_same : (q : Key) → (q ≡ (at s i).key → ⊥) → lookup q (pairs_of t (c - 1)) ≡ lookup q (pairs_of s c)
   else_same q n =
@@ -98,11 +98,11 @@ module _ (s t : List Slot) (c i : ℕ) (moved : Moved s t c i) (some : 0 < i) (w
       ⊎_elim
       (λ e.
       let l : i < c = ⊎_elim (λ x. absurd (ni (e ∙ sym x))) (λ x. omega arith) (cases_eq i c) in
-      lookup_some t q (c - 1) i apart-moved some (omega arith) (moved.key_at l ∙ ap (λ m. (at s m).key) (sym e) ∙ w.3)
+      lookup_some t q (c - 1) i apart_moved some (omega arith) (moved.key_at l ∙ ap (λ m. (at s m).key) (sym e) ∙ w.3)
       ∙ ap (λ x. Some x) (moved.life_at l ∙ ap (λ m. (at s m).life) (sym e)) ∙ sym there)
       (λ o.
       let l : j < c = omega arith in
-      lookup_some t q (c - 1) j apart-moved zj (omega arith) (moved.key_else j l ni ∙ w.3)
+      lookup_some t q (c - 1) j apart_moved zj (omega arith) (moved.key_else j l ni ∙ w.3)
       ∙ ap (λ x. Some x) (moved.life_else j l ni) ∙ sym there)
       (cases_eq j c))
       (λ w.
@@ -119,30 +119,30 @@ module _ (s t : List Slot) (c i : ℕ) (moved : Moved s t c i) (some : 0 < i) (w
 
 -- the last slot is taken out
 module _ (s t : List Slot) (c i : ℕ) (old : Sound s c) (some : 0 < i) (last : i ≡ c) (kept : Kept s t) (k : Linked (re (chain_at s) i 0) t c) where
-  last-moved : Moved s t c i
-  last-moved = record { key_else = λ m _ _. kept.keys m; life_else = λ m _ _. kept.lives m; key_at = λ l. absurd (omega arith); life_at = λ l. absurd (omega arith) }
+  last_moved : Moved s t c i
+  last_moved = record { key_else = λ m _ _. kept.keys m; life_else = λ m _ _. kept.lives m; key_at = λ l. absurd (omega arith); life_at = λ l. absurd (omega arith) }
 
-  pub last-sound : Sound t (c - 1)
-  last-sound = record {
+  pub last_sound : Sound t (c - 1)
+  last_sound = record {
     fits = omega (arith, kept.size, old.fits);
     small = omega (arith, kept.size, old.small);
     linked = shrink k (omega arith) (re_same (chain_at s) i 0 c (sym last)) (λ m l. chain_same s t m _ kept.size (kept.keys m) ∙ sym (re_else (chain_at s) i 0 m (λ e. omega arith)));
-    apart = apart-moved s t c i last-moved some (omega arith) old.apart;
+    apart = apart_moved s t c i last_moved some (omega arith) old.apart;
   }
 
-  pub last-becomes : Becomes (pairs_of s c) (pairs_of t (c - 1)) (at s i).key None
-  last-becomes = becomes s t c i last-moved some (omega arith) old.apart
+  pub last_becomes : Becomes (pairs_of s c) (pairs_of t (c - 1)) (at s i).key None
+  last_becomes = becomes s t c i last_moved some (omega arith) old.apart
 
 -- a slot i before the last one, c, is taken out: i and c leave their chains, c's pair goes to i, and i joins the chain d of c
 module _ (s u v : List Slot) (c i d : ℕ) (old : Sound s c) (some : 0 < i) (less : i < c)
     (one : Kept s u) (is : d ≡ chain_of (at u c).key (length s))
     (k1 : Linked (re (chain_at s) i 0) u c)
     (two : Kept u v) (more : (K : ℕ → ℕ) → Linked K u c → K c ≡ d → Linked (re K c 0) v c) where
-  chain-last : chain_at s c ≡ d
-  chain-last = ap (λ k. chain_of k (length s)) (sym (one.keys c)) ∙ sym is
+  chain_last : chain_at s c ≡ d
+  chain_last = ap (λ k. chain_of k (length s)) (sym (one.keys c)) ∙ sym is
 
   k2 : Linked (re (re (chain_at s) i 0) c 0) v c
-  k2 = more (re (chain_at s) i 0) k1 (re_else (chain_at s) i 0 c (λ e. omega arith) ∙ chain-last)
+  k2 = more (re (chain_at s) i 0) k1 (re_else (chain_at s) i 0 c (λ e. omega arith) ∙ chain_last)
 
   module _ (w : List Slot) (three : Paired v w i (at u c).key (at u c).life) where
     pub k3 : Linked (re (re (chain_at s) i 0) c 0) w c
@@ -166,21 +166,21 @@ module _ (s u v : List Slot) (c i d : ℕ) (old : Sound s c) (some : 0 < i) (les
       chains : (m : ℕ) → m < c → chain_at t m ≡ re (re (re (chain_at s) i 0) c 0) i d m
       chains m l =
           ⊎_elim
-          (λ e. chain_same s t m (at s c).key size (ap (λ n. (at t n).key) e ∙ moved.key_at less) ∙ chain-last ∙ sym (re_same (re (re (chain_at s) i 0) c 0) i d m e))
+          (λ e. chain_same s t m (at s c).key size (ap (λ n. (at t n).key) e ∙ moved.key_at less) ∙ chain_last ∙ sym (re_same (re (re (chain_at s) i 0) c 0) i d m e))
           (λ n. chain_same s t m (at s m).key size (moved.key_else m l n)
           ∙ sym (re_else (re (re (chain_at s) i 0) c 0) i d m n ∙ re_else (re (chain_at s) i 0) c 0 m (λ e. omega arith) ∙ re_else (chain_at s) i 0 m n))
           (cases_eq m i)
 
-      pub taken-sound : Sound t (c - 1)
-      taken-sound = record {
+      pub taken_sound : Sound t (c - 1)
+      taken_sound = record {
         fits = omega (arith, size, old.fits);
         small = omega (arith, size, old.small);
         linked = shrink k4 (omega arith) (re_else (re (re (chain_at s) i 0) c 0) i d c (λ e. omega arith) ∙ re_same (re (chain_at s) i 0) c 0 c refl) chains;
-        apart = apart-moved s t c i moved some (omega arith) old.apart;
+        apart = apart_moved s t c i moved some (omega arith) old.apart;
       }
 
-      pub taken-becomes : Becomes (pairs_of s c) (pairs_of t (c - 1)) (at s i).key None
-      taken-becomes = becomes s t c i moved some (omega arith) old.apart
+      pub taken_becomes : Becomes (pairs_of s c) (pairs_of t (c - 1)) (at s i).key None
+      taken_becomes = becomes s t c i moved some (omega arith) old.apart
 
 -- a life is replaced
 module _ (s t : List Slot) (c i : ℕ) (k : Key) (l : Life) (old : Sound s c) (some : 0 < i) (within : i ≤ c) (held : (at s i).key ≡ k) (one : Paired s t i k l) where
@@ -191,8 +191,8 @@ module _ (s t : List Slot) (c i : ℕ) (k : Key) (l : Life) (old : Sound s c) (s
       (λ n. one.key_else m n)
       (cases_eq m i)
 
-  pub held-sound : Sound t c
-  held-sound = record {
+  pub held_sound : Sound t c
+  held_sound = record {
     fits = omega (arith, one.size, old.fits);
     small = omega (arith, one.size, old.small);
     linked = record {
@@ -205,14 +205,14 @@ module _ (s t : List Slot) (c i : ℕ) (k : Key) (l : Life) (old : Sound s c) (s
       chains : (m : ℕ) → chain_at t m ≡ chain_at s m
       chains m = chain_same s t m _ one.size (keys m)
 
-  pub held-becomes : Becomes (pairs_of s c) (pairs_of t c) k (Some l)
-  held-becomes q =
+  pub held_becomes : Becomes (pairs_of s c) (pairs_of t c) k (Some l)
+  held_becomes q =
       ⊎_elim
-      (λ e. rw e (lookup_some t q c i held-sound.apart some within (one.key_at ∙ sym (same_true _ _ e)) ∙ ap (λ x. Some x) one.life_at))
+      (λ e. rw e (lookup_some t q c i held_sound.apart some within (one.key_at ∙ sym (same_true _ _ e)) ∙ ap (λ x. Some x) one.life_at))
       (λ e. rw e (⊎_elim
       (λ w.
       let n : w.0 ≡ i → ⊥ = λ f. both_ways _ e (same_self _ _ (sym w.3 ∙ ap (λ m. (at s m).key) f ∙ held)) in
-      lookup_some t q c w.0 held-sound.apart w.1 w.2 (keys w.0 ∙ w.3)
+      lookup_some t q c w.0 held_sound.apart w.1 w.2 (keys w.0 ∙ w.3)
       ∙ ap (λ x. Some x) (one.life_else w.0 n) ∙ sym (lookup_some s q c w.0 old.apart w.1 w.2 w.3))
       (λ w. lookup_none t q c (λ m z h f. w m z h (sym (keys m) ∙ f)) ∙ sym (lookup_none s q c w))
       (where_is s q c)))

@@ -40,30 +40,30 @@ one_due v p (Some q) e = cc
 -- ---- What a line says, once it is read
 
 module _ (bs : Bytes) (r : Report) (e : said_in (Ok r) ≡ reading bs) where
-  read-so : (first_fit line_rows bs ≡ None) × (said r ≡ report (fields bs))
-  read-so = none_fitted bs (report (fields bs)) (said r) (first_fit line_rows bs) e
+  read_so : (first_fit line_rows bs ≡ None) × (said r ≡ report (fields bs))
+  read_so = none_fitted bs (report (fields bs)) (said r) (first_fit line_rows bs) e
 
-  read-sizes : Sizes (said r)
-  read-sizes = subst Sizes (sym read-so.1) (sizes bs read-so.0)
+  read_sizes : Sizes (said r)
+  read_sizes = subst Sizes (sym read_so.1) (sizes bs read_so.0)
 
-  pub key-made : (n : ℕ) (o : Option Key) → n < 64 → parts_in o ≡ parts_from r.kind r.id.now n r.venue.now r.participant.now r.side → parts_in o ≡ Some (key_with n (said r))
-  key-made n o l p = p ∙ key_stands (said r) n read-sizes l
+  pub key_made : (n : ℕ) (o : Option Key) → n < 64 → parts_in o ≡ parts_from r.kind r.id.now n r.venue.now r.participant.now r.side → parts_in o ≡ Some (key_with n (said r))
+  key_made n o l p = p ∙ key_stands (said r) n read_sizes l
 
-  pub life-made : (o : Option Life) → life_in o ≡ life_from r.time r.quantity r.price → life_in o ≡ Some (life_with (said r))
-  life-made o p = p ∙ life_stands (said r) read-sizes
+  pub life_made : (o : Option Life) → life_in o ≡ life_from r.time r.quantity r.price → life_in o ≡ Some (life_with (said r))
+  life_made o p = p ∙ life_stands (said r) read_sizes
 
 -- ---- What it claims
 
 module _ (cs : List Contract) (bs : Bytes) where
-  both-tables : first_fit looking_rows (bs, told_by cs bs) ≡ or_else (first_fit line_rows bs) (first_fit market_rows (told_by cs bs))
-  both-tables = looking_parts (with_contracts (empty_book 0) cs) bs
+  both_tables : first_fit looking_rows (bs, told_by cs bs) ≡ or_else (first_fit line_rows bs) (first_fit market_rows (told_by cs bs))
+  both_tables = looking_parts (with_contracts (empty_book 0) cs) bs
 
   -- a line that cannot be read
-  pub by-line : (r : Result Claim LineFault) (x : ReadFault) → IsErrAnd r (λ y. y ≡ line_fault.Read x) → said_in (Err x) ≡ reading bs → claim_in r ≡ claiming cs bs
-  by-line r x b e =
+  pub by_line : (r : Result Claim LineFault) (x : ReadFault) → IsErrAnd r (λ y. y ≡ line_fault.Read x) → said_in (Err x) ≡ reading bs → claim_in r ≡ claiming cs bs
+  by_line r x b e =
       let q = err_from_is_err_and r b in
       let s = one_fitted bs (report (fields bs)) (fault_number x) (fault_field x) (fault_offset x) (first_fit line_rows bs) e in
-      let o = both-tables ∙ ap (λ o. or_else o (first_fit market_rows (told_by cs bs))) s.0 in
+      let o = both_tables ∙ ap (λ o. or_else o (first_fit market_rows (told_by cs bs))) s.0 in
       ap claim_in q.1
       ∙ ap (λ y. Err (line_refusal y)) q.2
       ∙ ap (λ at. Err (Refused (fault_number x) (fault_field x) at)) s.1
@@ -71,21 +71,21 @@ module _ (cs : List Contract) (bs : Bytes) where
 
   -- one that was read: its contract refuses it, or it makes its claim
   module _ (r : Report) (e : said_in (Ok r) ≡ reading bs) where
-    list-only : first_fit looking_rows (bs, told_by cs bs) ≡ first_fit market_rows (told cs (said r))
-    list-only = both-tables ∙ (λ i. or_else ((read-so bs r e).0 i) (first_fit market_rows (told cs (sym (read-so bs r e).1 i))))
+    list_only : first_fit looking_rows (bs, told_by cs bs) ≡ first_fit market_rows (told cs (said r))
+    list_only = both_tables ∙ (λ i. or_else ((read_so bs r e).0 i) (first_fit market_rows (told cs (sym (read_so bs r e).1 i))))
 
-    pub by-list : (x : ListFault) (f at : ℕ) → f ≡ list_fault_field x → at ≡ start f (fields bs) → Err (list_fault_number x, list_fault_field x) ≡ due cs (said r)
+    pub by_list : (x : ListFault) (f at : ℕ) → f ≡ list_fault_field x → at ≡ start f (fields bs) → Err (list_fault_number x, list_fault_field x) ≡ due cs (said r)
         → claim_in (Err (line_fault.List x at)) ≡ claiming cs bs
-    by-list x f at g a d =
-        let o = list-only ∙ one_due _ _ (first_fit market_rows (told cs (said r))) d in
+    by_list x f at g a d =
+        let o = list_only ∙ one_due _ _ (first_fit market_rows (told cs (said r))) d in
         ap (λ n. Err (Refused (list_fault_number x) (list_fault_field x) n)) (a ∙ ap (λ n. start n (fields bs)) g)
         ∙ sym (ap (settled_by bs (claimed_by (told_by cs bs))) o)
 
-    pub by-none : (n : ℕ) (k : Key) (l : Life) → Ok n ≡ due cs (said r) → key_parts k ≡ key_with n (said r) → life_parts l ≡ life_with (said r)
+    pub by_none : (n : ℕ) (k : Key) (l : Life) → Ok n ≡ due cs (said r) → key_parts k ≡ key_with n (said r) → life_parts l ≡ life_with (said r)
         → claim_in (Ok (record { key = k; action = r.action; told = l })) ≡ claiming cs bs
-    by-none n k l d p q =
+    by_none n k l d p q =
         let m = none_due (contract_number (told cs (said r))) n (first_fit market_rows (told cs (said r))) d in
         (λ i. Ok (record { of_key = p i; acts = r.action; tells = q i }))
         ∙ (λ i. Ok (record { of_key = key_with (m.1 i) (said r); acts = r.action; tells = life_with (said r) }))
-        ∙ ap (λ x. Ok (claimed_by (told cs x))) (read-so bs r e).1
-        ∙ sym (ap (settled_by bs (claimed_by (told_by cs bs))) (list-only ∙ m.0))
+        ∙ ap (λ x. Ok (claimed_by (told cs x))) (read_so bs r e).1
+        ∙ sym (ap (settled_by bs (claimed_by (told_by cs bs))) (list_only ∙ m.0))

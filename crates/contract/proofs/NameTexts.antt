@@ -9,7 +9,7 @@ use Rattle.text.specs.Forms.{a_name, few_names}
 use Rattle.text.specs.Listings.{first_name}
 use Rattle.text.specs.Texts.{text_of, text_in, texts_of}
 use Rattle.text.proofs.Amongs.{texts_push}
-use Rattle.text.proofs.Pieces.{first-after}
+use Rattle.text.proofs.Pieces.{first_after}
 use Rattle.contract.specs.declared.held.NameList.{NameList}
 use Rattle.contract.specs.ContractList.{repeats}
 use Rattle.contract.specs.Held.{names_of}
@@ -68,6 +68,6 @@ none_said ns = ap (leb 2) (sym (names_count ns)) ∙ sym (and_true (leb 2 (lengt
 
 pub some_said : (b : Bool) (t : Bytes) → false ≡ (b && eqb (length (pieces 44 t)) 0)
 some_said b t =
-    let l = ap length (first-after 44 t) in
+    let l = ap length (first_after 44 t) in
     let n : eqb (length (pieces 44 t)) 0 ≡ false = grind (arith, nat_tests) in
     sym (and_right b _ n)

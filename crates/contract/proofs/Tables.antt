@@ -32,8 +32,8 @@ checked cs c known plain twice full k p t f =
 -- ---- Adding a contract
 
 module _ (cs : List Contract) (bs : Bytes) where
-  both-tables : first_fit contract_rows (cs, bs) ≡ or_else (first_fit text_rows bs) (first_fit listing_rows (cs, offered bs))
-  both-tables =
+  both_tables : first_fit contract_rows (cs, bs) ≡ or_else (first_fit text_rows bs) (first_fit listing_rows (cs, offered bs))
+  both_tables =
       fit_append {X = List Contract × Bytes} (looking_at (λ x. x.1) text_rows) (looking_at (λ x. (x.0, offered x.1)) listing_rows) (cs, bs)
       ∙ (λ i. or_else
       (fit_looking (λ (x : List Contract × Bytes). x.1) text_rows (cs, bs) i)
@@ -55,26 +55,26 @@ module _ (cs : List Contract) (bs : Bytes) where
           sym (ap (λ o. cond (is_some o) cs (cs ++ offered bs ∷ [])) g),
         )
 
-  pub by-text : (r : Result ℕ ContractFault) (x : ContractFault) → IsErrAnd r (λ y. y ≡ x) → Err (contract_refusal x) ≡ settled_by bs (offered bs) (first_fit text_rows bs) → Answers r cs
-  by-text r x b e =
+  pub by_text : (r : Result ℕ ContractFault) (x : ContractFault) → IsErrAnd r (λ y. y ≡ x) → Err (contract_refusal x) ≡ settled_by bs (offered bs) (first_fit text_rows bs) → Answers r cs
+  by_text r x b e =
       let s = found r x (offered bs) (first_fit text_rows bs) b e in
-      refused r x (offered bs) (first_fit text_rows bs) b e (both-tables ∙ ap (λ o. or_else o (first_fit listing_rows (cs, offered bs))) s.0 ∙ sym s.0)
+      refused r x (offered bs) (first_fit text_rows bs) b e (both_tables ∙ ap (λ o. or_else o (first_fit listing_rows (cs, offered bs))) s.0 ∙ sym s.0)
 
   module _ (c : HeldContract) (e : Ok (contract_of c) ≡ settled_by bs (offered bs) (first_fit text_rows bs)) where
-    read-so : (first_fit text_rows bs ≡ None) × (contract_of c ≡ offered bs)
-    read-so = none_fitted bs (offered bs) (contract_of c) (first_fit text_rows bs) e
+    read_so : (first_fit text_rows bs ≡ None) × (contract_of c ≡ offered bs)
+    read_so = none_fitted bs (offered bs) (contract_of c) (first_fit text_rows bs) e
 
-    listing-only : first_fit contract_rows (cs, bs) ≡ first_fit listing_rows (cs, contract_of c)
-    listing-only = both-tables ∙ (λ i. or_else (read-so.0 i) (first_fit listing_rows (cs, sym read-so.1 i)))
+    listing_only : first_fit contract_rows (cs, bs) ≡ first_fit listing_rows (cs, contract_of c)
+    listing_only = both_tables ∙ (λ i. or_else (read_so.0 i) (first_fit listing_rows (cs, sym read_so.1 i)))
 
-    pub by-list : (r : Result ℕ ContractFault) (x : ContractFault) → IsErrAnd r (λ y. y ≡ x) → Err (contract_refusal x) ≡ settled_by {V = Unit {0}} bs tt (first_fit listing_rows (cs, contract_of c)) → Answers r cs
-    by-list r x b f = refused {V = Unit {0}} r x tt (first_fit listing_rows (cs, contract_of c)) b f listing-only
+    pub by_list : (r : Result ℕ ContractFault) (x : ContractFault) → IsErrAnd r (λ y. y ≡ x) → Err (contract_refusal x) ≡ settled_by {V = Unit {0}} bs tt (first_fit listing_rows (cs, contract_of c)) → Answers r cs
+    by_list r x b f = refused {V = Unit {0}} r x tt (first_fit listing_rows (cs, contract_of c)) b f listing_only
 
-    pub by-none : (n : ℕ) (left : List Contract) → n ≡ suc (length cs) → left ≡ cs ++ contract_of c ∷ [] → Ok (tt {0}) ≡ settled_by {V = Unit {0}} bs tt (first_fit listing_rows (cs, contract_of c)) → Answers (Ok n) left
-    by-none n left l m f =
-        let none = listing-only ∙ (none_fitted {V = Unit {0}} bs tt tt (first_fit listing_rows (cs, contract_of c)) f).0 in (
+    pub by_none : (n : ℕ) (left : List Contract) → n ≡ suc (length cs) → left ≡ cs ++ contract_of c ∷ [] → Ok (tt {0}) ≡ settled_by {V = Unit {0}} bs tt (first_fit listing_rows (cs, contract_of c)) → Answers (Ok n) left
+    by_none n left l m f =
+        let none = listing_only ∙ (none_fitted {V = Unit {0}} bs tt tt (first_fit listing_rows (cs, contract_of c)) f).0 in (
           ap Ok l ∙ sym (ap (settled_by bs (suc (length cs))) none),
-          m ∙ ap (λ x. cs ++ x ∷ []) read-so.1 ∙ sym (ap (λ o. cond (is_some o) cs (cs ++ offered bs ∷ [])) none),
+          m ∙ ap (λ x. cs ++ x ∷ []) read_so.1 ∙ sym (ap (λ o. cond (is_some o) cs (cs ++ offered bs ∷ [])) none),
         )
 
 -- ---- What a read line owes to the list

@@ -11,7 +11,7 @@ use Rattle.text.specs.Bytes.{Bytes, between, every, pieces, piece, start, then, 
 use Rattle.text.specs.Cuts.{span_to, front_to}
 use Rattle.text.specs.Forms.{code_form}
 use Rattle.text.specs.Rows.{Refusal, settled_by}
-use Rattle.text.proofs.Pieces.{piece_and_more, piece_alone, first-after}
+use Rattle.text.proofs.Pieces.{piece_and_more, piece_alone, first_after}
 use Rattle.filing.specs.Codes.{code_there}
 use Rattle.filing.specs.Cut.{in_two}
 use Rattle.filing.specs.Names.{a_date, a_schema, a_version, a_last, code_in, name_form, code_offset, naming}
@@ -74,7 +74,7 @@ last_part d s v c l =
     ⊎_elim
     (λ (y : ltb (span_to 95 l) (length l) ≡ true).
     let h : span_to 95 l < length l = grind (arith, nat_tests) in
-    ap (λ ts. code_in (d ∷ s ∷ v ∷ c ∷ ts)) (piece_and_more 95 l h ∙ ap (λ ts. front_to 95 l ∷ ts) (first-after 95 (drop (span_to 95 l + 1) l)))
+    ap (λ ts. code_in (d ∷ s ∷ v ∷ c ∷ ts)) (piece_and_more 95 l h ∙ ap (λ ts. front_to 95 l ∷ ts) (first_after 95 (drop (span_to 95 l + 1) l)))
     ∙ sym (ap (λ b. cond b (code_form c) None) (never_around d s v l (barred l h))))
     (λ (n : ltb (span_to 95 l) (length l) ≡ false).
     ap (λ ts. code_in (d ∷ s ∷ v ∷ c ∷ ts)) (alone l (let h : length l ≤ span_to 95 l = grind (arith, nat_tests) in h)))
@@ -86,21 +86,21 @@ module _ (name : Bytes) where
   too_few ts e n = sym (ap (λ o. then o (λ code. Some (code, code_offset name))) (ap code_in e ∙ n))
 
   module _ (d s v c l : Bytes) (e : pieces 95 name ≡ d ∷ s ∷ v ∷ c ∷ pieces 95 l) where
-    pub name-says : name_form name ≡ cond (around d s v l) (code_form c) None
+    pub name_says : name_form name ≡ cond (around d s v l) (code_form c) None
     unfolding name_form
-    name-says = ap code_in e ∙ last_part d s v c l
+    name_says = ap code_in e ∙ last_part d s v c l
 
-    pub offset-is : code_offset name ≡ length d + length s + length v + 3
+    pub offset_is : code_offset name ≡ length d + length s + length v + 3
     unfolding code_offset
-    offset-is = ap (start 4) e ∙ omega arith
+    offset_is = ap (start 4) e ∙ omega arith
 
     pub unlike : false ≡ around d s v l → None ≡ code_there name
-    unlike h = sym (ap (λ o. then o (λ code. Some (code, code_offset name))) (name-says ∙ ap (λ b. cond b (code_form c) None) (sym h)))
+    unlike h = sym (ap (λ o. then o (λ code. Some (code, code_offset name))) (name_says ∙ ap (λ b. cond b (code_form c) None) (sym h)))
 
-    pub code-said : (o : Option Bytes) → true ≡ around d s v l → o ≡ code_form c → then o (λ code. Some (code, length d + length s + length v + 3)) ≡ code_there name
-    code-said o h f =
-        ap (λ n. then o (λ code. Some (code, n))) (sym offset-is)
-        ∙ ap (λ x. then x (λ code. Some (code, code_offset name))) (f ∙ sym (name-says ∙ ap (λ b. cond b (code_form c) None) (sym h)))
+    pub code_said : (o : Option Bytes) → true ≡ around d s v l → o ≡ code_form c → then o (λ code. Some (code, length d + length s + length v + 3)) ≡ code_there name
+    code_said o h f =
+        ap (λ n. then o (λ code. Some (code, n))) (sym offset_is)
+        ∙ ap (λ x. then x (λ code. Some (code, code_offset name))) (f ∙ sym (name_says ∙ ap (λ b. cond b (code_form c) None) (sym h)))
 
 -- ---- How long the parts before the code are
 
@@ -126,7 +126,7 @@ few_before d s v l e =
 
 pub stands : (k : ℕ) (t : Bytes) → k < length (pieces 95 t) → piece (suc k) (pieces 95 t) ≡ take (length (piece (suc k) (pieces 95 t))) (drop (start (suc k) (pieces 95 t)) t)
 stands zero t h =
-    let e = first-after 95 t in
+    let e = first_after 95 t in
     let f : front_to 95 t ≡ take (length (front_to 95 t)) t = grind (arith, length-take-le, prefix_len-le-length) in
     ap (piece 1) e ∙ f ∙ ap (λ ts. take (length (piece 1 ts)) t) (sym e)
 stands (suc k) t h =

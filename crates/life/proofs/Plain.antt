@@ -68,27 +68,27 @@ plain_same xs ys h j = by (look j (plain xs)) (look j (plain ys)) refl refl
 
 module _ (k : Key) (xs xs' : List (Key × Life)) (ls : Lives) (s : Same (plain xs) ls) where
   -- a life put in, at each key
-  put-at : (l : Life) → pairs.Same xs' ((k, l) ∷ pairs.erase k xs) → (j : KeyParts) → look j (plain xs') ≡ cond (same_key j (key_parts k)) (Some (life_parts l)) (look j ls)
-  put-at l h j =
+  put_at : (l : Life) → pairs.Same xs' ((k, l) ∷ pairs.erase k xs) → (j : KeyParts) → look j (plain xs') ≡ cond (same_key j (key_parts k)) (Some (life_parts l)) (look j ls)
+  put_at l h j =
       plain_same xs' ((k, l) ∷ pairs.erase k xs) h j
       ∙ ap (λ ps. look j ((key_parts k, life_parts l) ∷ ps)) (plain_erase k xs)
       ∙ look_put j (key_parts k) (life_parts l) (plain xs)
       ∙ ap (cond (same_key j (key_parts k)) (Some (life_parts l))) (s j)
 
   -- a life enters
-  pub plain-entered : (l : Life) → pairs.Same xs' ((k, l) ∷ pairs.erase k xs) → Same (plain xs') ((key_parts k, life_parts l) ∷ ls)
-  plain-entered l h j = put-at l h j
+  pub plain_entered : (l : Life) → pairs.Same xs' ((k, l) ∷ pairs.erase k xs) → Same (plain xs') ((key_parts k, life_parts l) ∷ ls)
+  plain_entered l h j = put_at l h j
 
   -- a life is altered
-  pub plain-altered : (old : LifeParts) (f : LifeParts → LifeParts) (l : Life) → look (key_parts k) ls ≡ Some old → f old ≡ life_parts l → pairs.Same xs' ((k, l) ∷ pairs.erase k xs) → Same (plain xs') (altered (key_parts k) f ls)
-  plain-altered old f l found is h j =
-      put-at l h j
+  pub plain_altered : (old : LifeParts) (f : LifeParts → LifeParts) (l : Life) → look (key_parts k) ls ≡ Some old → f old ≡ life_parts l → pairs.Same xs' ((k, l) ∷ pairs.erase k xs) → Same (plain xs') (altered (key_parts k) f ls)
+  plain_altered old f l found is h j =
+      put_at l h j
       ∙ ap (λ o. cond (same_key j (key_parts k)) o (look j ls)) (sym (ap (mapped f) found ∙ ap Some is))
       ∙ sym (look_altered_at j (key_parts k) f ls)
 
   -- a life goes
-  pub plain-removed : pairs.Same xs' (pairs.erase k xs) → Same (plain xs') (erase (key_parts k) ls)
-  plain-removed h j =
+  pub plain_removed : pairs.Same xs' (pairs.erase k xs) → Same (plain xs') (erase (key_parts k) ls)
+  plain_removed h j =
       plain_same xs' (pairs.erase k xs) h j
       ∙ ap (look j) (plain_erase k xs)
       ∙ look_erase j (key_parts k) (plain xs)

@@ -7,7 +7,7 @@ use Rattle.std.proofs.lemmas.Bool.Decides.{nat_tests}
 use Rattle.text.specs.Bytes.{Bytes, pieces, piece, start, onto_first}
 use Rattle.text.specs.Cuts.{span_to}
 use Rattle.text.specs.Rows.{fields}
-use Rattle.text.proofs.Pieces.{first-after, after_at}
+use Rattle.text.proofs.Pieces.{first_after, after_at}
 use Rattle.line.specs.Reads.{front, pace}
 
 -- the offset of field k, from 0, and its bytes, as a reader finds them
@@ -57,7 +57,7 @@ offset_zero bs = refl
 -- where there is a second field, the first one is followed by a separator
 second : (k : ℕ) (bs : List ℕ) → suc k < length (fields bs) → ltb (span_to 59 bs) (length bs) ≡ true
 second k bs h =
-    let long = ap length (first-after 59 bs) in
+    let long = ap length (first_after 59 bs) in
     ⊎_elim
     (λ (y : ltb (span_to 59 bs) (length bs) ≡ true). y)
     (λ (n : ltb (span_to 59 bs) (length bs) ≡ false).
@@ -67,11 +67,11 @@ second k bs h =
 
 -- and the others are those of what comes after it
 later : (k : ℕ) (bs : List ℕ) → suc k < length (fields bs) → fields bs ≡ front bs ∷ fields (drop (pace bs) bs)
-later k bs h = first-after 59 bs ∙ ap (λ t. front bs ∷ after_at 59 t (pace bs) bs) (second k bs h)
+later k bs h = first_after 59 bs ∙ ap (λ t. front bs ∷ after_at 59 t (pace bs) bs) (second k bs h)
 
 -- the bytes of field k are the piece k + 1 of the line, and it stands at its start
 pub texts : (k : ℕ) (bs : Bytes) → k < length (fields bs) → text k bs ≡ piece (suc k) (fields bs)
-texts zero bs h = ap (λ o. front (drop o bs)) (offset_zero bs) ∙ ap (λ fs. piece 1 fs) (sym (first-after 59 bs))
+texts zero bs h = ap (λ o. front (drop o bs)) (offset_zero bs) ∙ ap (λ fs. piece 1 fs) (sym (first_after 59 bs))
 texts (suc k) bs h =
     let e = later k bs h in
     let l = ap length e in

@@ -12,11 +12,11 @@ use Rattle.line.proofs.Fields.{offset, text, offset_zero, offset_next, texts, st
 -- ---- One row
 
 module _ {V : Type 0} (rows : List (Row Bytes)) (bs : Bytes) (v : V) (r : Row Bytes) where
-  pub row-passes : r.fits bs ≡ false → settled (r ∷ rows) bs v ≡ settled rows bs v
-  row-passes e = ap (λ t. settled_by bs v (cond t (Some (r.number, r.for_field)) (first_fit rows bs))) e
+  pub row_passes : r.fits bs ≡ false → settled (r ∷ rows) bs v ≡ settled rows bs v
+  row_passes e = ap (λ t. settled_by bs v (cond t (Some (r.number, r.for_field)) (first_fit rows bs))) e
 
-  pub row-stops : r.fits bs ≡ true → settled (r ∷ rows) bs v ≡ Err (refusal bs (r.number, r.for_field))
-  row-stops e = ap (λ t. settled_by bs v (cond t (Some (r.number, r.for_field)) (first_fit rows bs))) e
+  pub row_stops : r.fits bs ≡ true → settled (r ∷ rows) bs v ≡ Err (refusal bs (r.number, r.for_field))
+  row_stops e = ap (λ t. settled_by bs v (cond t (Some (r.number, r.for_field)) (first_fit rows bs))) e
 
 -- the row of a field whose number is n
 abbrev pub form_row : {A : Type 0} → ℕ → ℕ → (Bytes → Option A) → Row Bytes
@@ -66,7 +66,7 @@ module _ {A X V : Type 0} (hand-out : Bytes → ℕ → A → X) (form : Bytes �
           there = ap (λ t. t.at) f ∙ (λ i. h.there i + pace (drop (h.there i) (h.whole i))) ∙ sym (offset_next k bs);
           count = ap (λ t. t.field) f ∙ next_is p.field k h.count few;
           whole = l ∙ h.whole;
-          is = h.is ∙ row-passes rows bs v (form_row n (suc k) form) (ap (λ o. not (has_form o)) t);
+          is = h.is ∙ row_passes rows bs v (form_row n (suc k) form) (ap (λ o. not (has_form o)) t);
         },
         (s.0, t, s.2),
       )
@@ -76,4 +76,4 @@ module _ {A X V : Type 0} (hand-out : Bytes → ℕ → A → X) (form : Bytes �
   stopped {x} e =
       let s = said_none (hand-out (text k bs) (offset k bs)) (form (text k bs)) (suc k) (offset k bs) x (here e) in
       let t = ap form (sym (texts k bs short)) ∙ s.0 in
-      (s.1, h.is ∙ row-stops rows bs v (form_row n (suc k) form) (ap (λ o. not (has_form o)) t) ∙ (λ i. Err (Refused n (suc k) (sym (starts k bs short) i))))
+      (s.1, h.is ∙ row_stops rows bs v (form_row n (suc k) form) (ap (λ o. not (has_form o)) t) ∙ (λ i. Err (Refused n (suc k) (sym (starts k bs short) i))))

@@ -21,7 +21,7 @@ use Rattle.measure.specs.Positions.{traded, brought, true_position, Within}
 use Rattle.measure.specs.Sheets.{cell, position_of, no_sheet, added, residue, sheet_weight}
 use Rattle.measure.specs.Laws.{cell_sheet, sheet_group}
 use Rattle.measure.proofs.Cells.{cell_past, cell_added, cell_none, residue_minus}
-use Rattle.measure.proofs.Sums.{total-same}
+use Rattle.measure.proofs.Sums.{total_same}
 
 -- the word n stands for z, which is the difference of two numbers of at most `most`
 record StandsFor (n : ℕ) (z : ℤ) (most : ℕ) : Type 0 where
@@ -123,10 +123,10 @@ integers = record {
 
 -- true positions do not depend on the order of a list
 pub position_same : (n : ℕ) (ps qs : Lives) → Unique ps → Unique qs → Same ps qs → true_position n ps ≡ true_position n qs
-position_same n = total-same integers (brought n)
+position_same n = total_same integers (brought n)
 
 -- for a list with the look-ups of the pairs that code holds
 pub exact_as : (n : ℕ) (ps : List (Key × Life)) (ls : Lives) → length ps ≤ 65535 → Unique (plain ps) → Unique ls → Same (plain ps) ls →
     (s : Sheet) → s ≡ total_of no_sheet added sheet_weight ls → position_of s n ≡ true_position n ls
 exact_as n ps ls few u w h s e =
-    exact_plain n ps few s (e ∙ sym (total-same sheet_group sheet_weight (plain ps) ls u w h)) ∙ position_same n (plain ps) ls u w h
+    exact_plain n ps few s (e ∙ sym (total_same sheet_group sheet_weight (plain ps) ls u w h)) ∙ position_same n (plain ps) ls u w h

@@ -33,8 +33,8 @@ altered_same k [] = refl
 altered_same k (p ∷ ps) = λ i. (p.0, cond_same (same_key k p.0) p.1 i) ∷ altered_same k ps i
 
 module _ {V : Type 0} {nil : V} {joined : V → V → V} {inverse : V → V} (G : Group nil joined inverse) where
-  pub unit-right : (x : V) → joined x nil ≡ x
-  unit-right x = G.comm x nil ∙ G.unit x
+  pub unit_right : (x : V) → joined x nil ≡ x
+  unit_right x = G.comm x nil ∙ G.unit x
 
   -- the first of three goes behind the second
   past : (x y z : V) → joined x (joined y z) ≡ joined y (joined x z)
@@ -42,10 +42,10 @@ module _ {V : Type 0} {nil : V} {joined : V → V → V} {inverse : V → V} (G 
 
   -- what was joined is taken out again by its inverse: the one place where that law is used
   undone : (x y : V) → joined (joined x y) (inverse y) ≡ x
-  undone x y = G.assoc x y (inverse y) ∙ ap (joined x) (G.comm y (inverse y) ∙ G.undo y) ∙ unit-right x
+  undone x y = G.assoc x y (inverse y) ∙ ap (joined x) (G.comm y (inverse y) ∙ G.undo y) ∙ unit_right x
 
-  pub nothing-out : (x : V) → joined x (inverse nil) ≡ x
-  nothing-out x = ap (λ t. joined t (inverse nil)) (sym (unit-right x)) ∙ undone x nil
+  pub nothing_out : (x : V) → joined x (inverse nil) ≡ x
+  nothing_out x = ap (λ t. joined t (inverse nil)) (sym (unit_right x)) ∙ undone x nil
 
   module _ (weight : KeyParts → LifeParts → V) where
     abbrev total : Lives → V
@@ -57,29 +57,29 @@ module _ {V : Type 0} {nil : V} {joined : V → V → V} {inverse : V → V} (G 
     value k (Some l) = share nil weight k l
 
     -- a life comes, wherever it stands
-    pub total-come : (ps : Lives) (k : KeyParts) (l : LifeParts) (qs : Lives) →
+    pub total_come : (ps : Lives) (k : KeyParts) (l : LifeParts) (qs : Lives) →
         joined (total (ps ++ qs)) (share nil weight k l) ≡ total (ps ++ (k, l) ∷ qs)
-    total-come [] k l qs = G.comm _ _
-    total-come (p ∷ ps) k l qs = G.assoc _ _ _ ∙ ap (joined (share nil weight p.0 p.1)) (total-come ps k l qs)
+    total_come [] k l qs = G.comm _ _
+    total_come (p ∷ ps) k l qs = G.assoc _ _ _ ∙ ap (joined (share nil weight p.0 p.1)) (total_come ps k l qs)
 
     -- one pair more of the list that code goes through
-    pub total-next : (xs : List (Key × Life)) (i : ℕ) (d : Key × Life) → i < length xs →
+    pub total_next : (xs : List (Key × Life)) (i : ℕ) (d : Key × Life) → i < length xs →
         joined (total (plain (take i xs))) (share nil weight (key_parts (get_or xs i d).0) (life_parts (get_or xs i d).1)) ≡ total (plain (take (i + 1) xs))
-    total-next xs i d h =
+    total_next xs i d h =
         let here = plain (take i xs) in
         let k = key_parts (get_or xs i d).0 in
         let l = life_parts (get_or xs i d).1 in
         ap (λ ps. joined (total ps) (share nil weight k l)) (sym (append-nil here))
-        ∙ total-come here k l []
+        ∙ total_come here k l []
         ∙ ap total (sym (ap plain (take_more xs i d h) ∙ map-append plain_pair (take i xs) (get_or xs i d ∷ [])))
 
     -- the life of a key altered: its new share, and all others
-    total-altered : (k : KeyParts) (f : LifeParts → LifeParts) (ps : Lives) → Unique ps →
+    total_altered : (k : KeyParts) (f : LifeParts → LifeParts) (ps : Lives) → Unique ps →
         total (altered k f ps) ≡ joined (value k (mapped f (look k ps))) (total (erase k ps))
-    total-altered k f [] u = sym (G.unit nil)
-    total-altered k f (p ∷ ps) u =
+    total_altered k f [] u = sym (G.unit nil)
+    total_altered k f (p ∷ ps) u =
         let once = unique_parts p ps u in
-        let rest : total (altered k f ps) ≡ joined (value k (mapped f (look k ps))) (total (erase k ps)) = total-altered k f ps once.1 in
+        let rest : total (altered k f ps) ≡ joined (value k (mapped f (look k ps))) (total (erase k ps)) = total_altered k f ps once.1 in
         let Goal : Bool → Type 0 = λ b.
         joined (share nil weight p.0 (cond b (f p.1) p.1)) (total (altered k f ps))
         ≡ joined (value k (mapped f (cond b (Some p.1) (look k ps)))) (total (cond b (erase k ps) (p ∷ erase k ps))) in
@@ -95,35 +95,35 @@ module _ {V : Type 0} {nil : V} {joined : V → V → V} {inverse : V → V} (G 
         (cases_Bool (same_key k p.0))
 
     -- the share of a key, and all others
-    total-split : (k : KeyParts) (ps : Lives) → Unique ps → total ps ≡ joined (value k (look k ps)) (total (erase k ps))
-    total-split k ps u =
+    total_split : (k : KeyParts) (ps : Lives) → Unique ps → total ps ≡ joined (value k (look k ps)) (total (erase k ps))
+    total_split k ps u =
         ap total (sym (altered_same k ps))
-        ∙ total-altered k (λ l. l) ps u
+        ∙ total_altered k (λ l. l) ps u
         ∙ ap (λ o. joined (value k o) (total (erase k ps))) (mapped_same (look k ps))
 
     -- the life of a key goes
-    pub total-go : (k : KeyParts) (l : LifeParts) (ps : Lives) → Unique ps → look k ps ≡ Some l →
+    pub total_go : (k : KeyParts) (l : LifeParts) (ps : Lives) → Unique ps → look k ps ≡ Some l →
         joined (total ps) (inverse (share nil weight k l)) ≡ total (erase k ps)
-    total-go k l ps u e =
+    total_go k l ps u e =
         ap (λ t. joined t (inverse (share nil weight k l)))
-        (total-split k ps u ∙ ap (λ o. joined (value k o) (total (erase k ps))) e ∙ G.comm _ _)
+        (total_split k ps u ∙ ap (λ o. joined (value k o) (total (erase k ps))) e ∙ G.comm _ _)
         ∙ undone _ _
 
     -- the life of a key is altered
-    pub total-replace : (k : KeyParts) (old new : LifeParts) (f : LifeParts → LifeParts) (ps : Lives) → Unique ps → look k ps ≡ Some old → f old ≡ new →
+    pub total_replace : (k : KeyParts) (old new : LifeParts) (f : LifeParts → LifeParts) (ps : Lives) → Unique ps → look k ps ≡ Some old → f old ≡ new →
         joined (joined (total ps) (inverse (share nil weight k old))) (share nil weight k new) ≡ total (altered k f ps)
-    total-replace k old new f ps u e is =
-        ap (λ t. joined t (share nil weight k new)) (total-go k old ps u e)
+    total_replace k old new f ps u e is =
+        ap (λ t. joined t (share nil weight k new)) (total_go k old ps u e)
         ∙ G.comm _ _
         ∙ ap (λ o. joined (value k o) (total (erase k ps))) (ap Some (sym is) ∙ ap (mapped f) (sym e))
-        ∙ sym (total-altered k f ps u)
+        ∙ sym (total_altered k f ps u)
 
     -- the order of the list does not count
-    pub total-same : (ps qs : Lives) → Unique ps → Unique qs → Same ps qs → total ps ≡ total qs
-    total-same [] [] u w h = refl
-    total-same [] (q ∷ qs) u w h = absurd (none_some q.1 (h q.0 ∙ cond-true _ _ _ (parts_same q.0)))
-    total-same (p ∷ ps) qs u w h =
+    pub total_same : (ps qs : Lives) → Unique ps → Unique qs → Same ps qs → total ps ≡ total qs
+    total_same [] [] u w h = refl
+    total_same [] (q ∷ qs) u w h = absurd (none_some q.1 (h q.0 ∙ cond-true _ _ _ (parts_same q.0)))
+    total_same (p ∷ ps) qs u w h =
         let there : look p.0 qs ≡ Some p.1 = sym (h p.0) ∙ cond-true _ _ _ (parts_same p.0) in
-        let rest = total-same ps (erase p.0 qs) (unique_parts p ps u).1 (unique_erase p.0 qs w) (same_rest p ps qs u h) in
+        let rest = total_same ps (erase p.0 qs) (unique_parts p ps u).1 (unique_erase p.0 qs w) (same_rest p ps qs u h) in
         ap (joined (share nil weight p.0 p.1)) rest
-        ∙ sym (total-split p.0 qs w ∙ ap (λ o. joined (value p.0 o) (total (erase p.0 qs))) there)
+        ∙ sym (total_split p.0 qs w ∙ ap (λ o. joined (value p.0 o) (total (erase p.0 qs))) there)

@@ -8,7 +8,7 @@ use Rattle.life.specs.Keys.{Before}
 use Rattle.life.proofs.Lookups.{same_absent}
 use Rattle.ordered.specs.declared.entry.Entry.{Entry}
 use Rattle.ordered.specs.Table.{at, room_of, pairs_of, Sound, Sought, Inserted, Deleted, Puts, Drops}
-use Rattle.ordered.proofs.Rows.{held, at_same, at_other, room_within, room_to, fits_to, rise, before_apart, one_place, look_none, look_some, pairs_length, puts-in, takes_out}
+use Rattle.ordered.proofs.Rows.{held, at_same, at_other, room_within, room_to, fits_to, rise, before_apart, one_place, look_none, look_some, pairs_length, puts_in, takes_out}
 
 key_of : (e f : Entry) → e ≡ f → e.key ≡ f.key
 key_of e f p = ap (λ (x : Entry). x.key) p
@@ -41,7 +41,7 @@ module _ (s : List Entry) (c i : ℕ) (k : Key) (l : Life) (old : Sound s c) (lo
         held = held new;
         room = room_to s t (length-set s i _);
         fits = sym (or_left _ _ (ap is_some (look_some s k c i old low here)));
-        holds = puts-in s c t c k old new
+        holds = puts_in s c t c k old new
             (λ m x n. (m, x, at_other s i _ m (λ q. n (ap (λ y. (at s y).key) q ∙ here))))
             (λ n x f. (n, x, at_other s i _ n (λ q. f (key_of _ _ (at_same s i _ w n q)))))
             l (look_some t k c i new low (key_of _ _ self) ∙ ap (λ (y : Entry). Some y.life) self);
@@ -51,32 +51,32 @@ module _ (s : List Entry) (c i : ℕ) (k : Key) (l : Life) (old : Sound s c) (lo
 
 module _ (s t : List Entry) (c i : ℕ) (k : Key) (l : Life) (old : Sound s c) (room : c < room_of s) (place : Sought s c k (Err i))
     (w : Inserted s t c i (record { key = k; life = l })) where
-  ins-key : (at t i).key ≡ k
-  ins-key = key_of _ _ w.here
+  ins_key : (at t i).key ≡ k
+  ins_key = key_of _ _ w.here
 
-  ins-low : (m : ℕ) → m < i → (at t m).key ≡ (at s m).key
-  ins-low m h = key_of _ _ (w.low m h)
+  ins_low : (m : ℕ) → m < i → (at t m).key ≡ (at s m).key
+  ins_low m h = key_of _ _ (w.low m h)
 
-  ins-high : (m : ℕ) → i < m → m ≤ c → (at t m).key ≡ (at s (m - 1)).key
-  ins-high m h g = key_of _ _ (w.high m h g)
+  ins_high : (m : ℕ) → i < m → m ≤ c → (at t m).key ≡ (at s (m - 1)).key
+  ins_high m h g = key_of _ _ (w.high m h g)
 
-  ins-rising : (a b : ℕ) → a < b → b < c + 1 → Before (at t a).key (at t b).key
-  ins-rising a b x y =
+  ins_rising : (a b : ℕ) → a < b → b < c + 1 → Before (at t a).key (at t b).key
+  ins_rising a b x y =
       ⊎_elim
-      (λ q. rise _ _ _ _ (place.1 a (omega arith)) (ins-low a (omega arith)) (ap (λ n. (at t n).key) q ∙ ins-key))
+      (λ q. rise _ _ _ _ (place.1 a (omega arith)) (ins_low a (omega arith)) (ap (λ n. (at t n).key) q ∙ ins_key))
       (⊎_elim
-      (λ q. rise _ _ _ _ (old.rising a b x (omega (arith, place.0))) (ins-low a (omega arith)) (ins-low b q))
+      (λ q. rise _ _ _ _ (old.rising a b x (omega (arith, place.0))) (ins_low a (omega arith)) (ins_low b q))
       (λ q.
       ⊎_elim
-      (λ p. rise _ _ _ _ (place.2 (b - 1) (omega arith) (omega arith)) (ap (λ n. (at t n).key) p ∙ ins-key) (ins-high b q (omega arith)))
+      (λ p. rise _ _ _ _ (place.2 (b - 1) (omega arith) (omega arith)) (ap (λ n. (at t n).key) p ∙ ins_key) (ins_high b q (omega arith)))
       (⊎_elim
-      (λ p. rise _ _ _ _ (old.rising a (b - 1) (omega arith) (omega arith)) (ins-low a p) (ins-high b q (omega arith)))
-      (λ p. rise _ _ _ _ (old.rising (a - 1) (b - 1) (omega arith) (omega arith)) (ins-high a p (omega arith)) (ins-high b q (omega arith))))
+      (λ p. rise _ _ _ _ (old.rising a (b - 1) (omega arith) (omega arith)) (ins_low a p) (ins_high b q (omega arith)))
+      (λ p. rise _ _ _ _ (old.rising (a - 1) (b - 1) (omega arith) (omega arith)) (ins_high a p (omega arith)) (ins_high b q (omega arith))))
       (cases_order a i)))
       (cases_order b i)
 
-  ins-sound : Sound t (c + 1)
-  ins-sound = record { fits = fits_to s t (c + 1) w.size (omega arith); rising = ins-rising }
+  ins_sound : Sound t (c + 1)
+  ins_sound = record { fits = fits_to s t (c + 1) w.size (omega arith); rising = ins_rising }
 
   go : (m : ℕ) → m < c → ((at s m).key ≡ k → ⊥) → (n : ℕ) × (n < c + 1) × (at t n ≡ at s m)
   go m x _ =
@@ -90,7 +90,7 @@ module _ (s t : List Entry) (c i : ℕ) (k : Key) (l : Life) (old : Sound s c) (
   back : (n : ℕ) → n < c + 1 → ((at t n).key ≡ k → ⊥) → (m : ℕ) × (m < c) × (at t n ≡ at s m)
   back n x f =
       ⊎_elim
-      (λ q. absurd (f (ap (λ y. (at t y).key) q ∙ ins-key)))
+      (λ q. absurd (f (ap (λ y. (at t y).key) q ∙ ins_key)))
       (⊎_elim
       (λ q. (n, omega (arith, place.0), w.low n q))
       (λ q. (n - 1, omega arith, w.high n q (omega arith))))
@@ -99,11 +99,11 @@ module _ (s t : List Entry) (c i : ℕ) (k : Key) (l : Life) (old : Sound s c) (
   pub inserted : Puts s c t (c + 1) k l (Ok tt)
   inserted = record {
     size = w.size;
-    held = held ins-sound;
+    held = held ins_sound;
     room = room_to s t w.size;
     fits = sym (or_right _ _ (lt-ltb (length (pairs_of s c)) (room_of s) (omega (arith, pairs_length s c))));
-    holds = puts-in s c t (c + 1) k old ins-sound go back l
-        (look_some t k (c + 1) i ins-sound (omega (arith, place.0)) ins-key ∙ ap (λ (y : Entry). Some y.life) w.here);
+    holds = puts_in s c t (c + 1) k old ins_sound go back l
+        (look_some t k (c + 1) i ins_sound (omega (arith, place.0)) ins_key ∙ ap (λ (y : Entry). Some y.life) w.here);
     refused = λ f. absurd (true≢false f);
     rest = λ m h. w.rest m (omega arith);
   }
@@ -120,28 +120,28 @@ refused s c i k l old full place = record {
 }
 
 module _ (s t : List Entry) (c i : ℕ) (k : Key) (old : Sound s c) (low : i < c) (here : (at s i).key ≡ k) (w : Deleted s t c i) where
-  del-low : (m : ℕ) → m < i → (at t m).key ≡ (at s m).key
-  del-low m h = key_of _ _ (w.low m h)
+  del_low : (m : ℕ) → m < i → (at t m).key ≡ (at s m).key
+  del_low m h = key_of _ _ (w.low m h)
 
-  del-high : (m : ℕ) → i ≤ m → m + 1 < c → (at t m).key ≡ (at s (m + 1)).key
-  del-high m h g = key_of _ _ (w.high m h g)
+  del_high : (m : ℕ) → i ≤ m → m + 1 < c → (at t m).key ≡ (at s (m + 1)).key
+  del_high m h g = key_of _ _ (w.high m h g)
 
-  del-rising : (a b : ℕ) → a < b → b < c - 1 → Before (at t a).key (at t b).key
-  del-rising a b x y =
+  del_rising : (a b : ℕ) → a < b → b < c - 1 → Before (at t a).key (at t b).key
+  del_rising a b x y =
       ⊎_elim
-      (λ q. rise _ _ _ _ (old.rising a b x (omega arith)) (del-low a (omega arith)) (del-low b q))
+      (λ q. rise _ _ _ _ (old.rising a b x (omega arith)) (del_low a (omega arith)) (del_low b q))
       (λ q.
       ⊎_elim
-      (λ p. rise _ _ _ _ (old.rising a (b + 1) (omega arith) (omega arith)) (del-low a p) (del-high b q (omega arith)))
-      (λ p. rise _ _ _ _ (old.rising (a + 1) (b + 1) (omega arith) (omega arith)) (del-high a p (omega arith)) (del-high b q (omega arith)))
+      (λ p. rise _ _ _ _ (old.rising a (b + 1) (omega arith) (omega arith)) (del_low a p) (del_high b q (omega arith)))
+      (λ p. rise _ _ _ _ (old.rising (a + 1) (b + 1) (omega arith) (omega arith)) (del_high a p (omega arith)) (del_high b q (omega arith)))
       (cases_lt a i))
       (cases_lt b i)
 
-  del-sound : Sound t (c - 1)
-  del-sound = record { fits = fits_to s t (c - 1) w.size (omega (arith, old.fits)); rising = del-rising }
+  del_sound : Sound t (c - 1)
+  del_sound = record { fits = fits_to s t (c - 1) w.size (omega (arith, old.fits)); rising = del_rising }
 
-  del-go : (m : ℕ) → m < c → ((at s m).key ≡ k → ⊥) → (n : ℕ) × (n < c - 1) × (at t n ≡ at s m)
-  del-go m x f =
+  del_go : (m : ℕ) → m < c → ((at s m).key ≡ k → ⊥) → (n : ℕ) × (n < c - 1) × (at t n ≡ at s m)
+  del_go m x f =
       ⊎_elim
       (λ q. absurd (f (ap (λ y. (at s y).key) q ∙ here)))
       (⊎_elim
@@ -151,8 +151,8 @@ module _ (s t : List Entry) (c i : ℕ) (k : Key) (old : Sound s c) (low : i < c
       (m - 1, omega arith, w.high (m - 1) (omega arith) (omega arith) ∙ ap (at s) less)))
       (cases_order m i)
 
-  del-from : (n : ℕ) → n < c - 1 → (m : ℕ) × (m < c) × (at t n ≡ at s m) × (m ≡ i → ⊥)
-  del-from n x =
+  del_from : (n : ℕ) → n < c - 1 → (m : ℕ) × (m < c) × (at t n ≡ at s m) × (m ≡ i → ⊥)
+  del_from n x =
       ⊎_elim
       (λ q. (n, omega arith, w.low n q, λ e. omega arith))
       (λ q. (n + 1, omega arith, w.high n q (omega arith), λ e. omega arith))
@@ -161,10 +161,10 @@ module _ (s t : List Entry) (c i : ℕ) (k : Key) (old : Sound s c) (low : i < c
   pub deleted : Drops s c t (c - 1) k
   deleted = record {
     size = w.size;
-    held = held del-sound;
+    held = held del_sound;
     room = room_to s t w.size;
-    holds = takes_out s c t (c - 1) k old del-sound del-go (λ n x _. let f = del-from n x in (f.0, f.1, f.2))
-        (look_none t k (c - 1) (λ n x e. let f = del-from n x in f.3 (one_place s c old f.0 i f.1 low (sym (key_of _ _ f.2) ∙ e ∙ sym here))));
+    holds = takes_out s c t (c - 1) k old del_sound del_go (λ n x _. let f = del_from n x in (f.0, f.1, f.2))
+        (look_none t k (c - 1) (λ n x e. let f = del_from n x in f.3 (one_place s c old f.0 i f.1 low (sym (key_of _ _ f.2) ∙ e ∙ sym here))));
     idle = λ z. absurd (omega (arith, old.fits));
     rest = λ m h. w.rest m (omega arith);
   }

@@ -179,8 +179,8 @@ module _ (s : List Entry) (c : ℕ) (t : List Entry) (d : ℕ) (k : Key) (old : 
       (λ e. elsewhere q (λ f. true≢false (sym (ap (λ x. alike x k) f ∙ key_same k) ∙ e)) ∙ sym (cond-false _ _ _ e))
       (cases_Bool (alike q k))
 
-  pub puts-in : (l : Life) → look k (pairs_of t d) ≡ Some l → Same (pairs_of t d) ((k, l) ∷ erase k (pairs_of s c))
-  puts-in l h q = becomes (Some l) h q ∙ sym (look_put q k l (pairs_of s c))
+  pub puts_in : (l : Life) → look k (pairs_of t d) ≡ Some l → Same (pairs_of t d) ((k, l) ∷ erase k (pairs_of s c))
+  puts_in l h q = becomes (Some l) h q ∙ sym (look_put q k l (pairs_of s c))
 
   pub takes_out : look k (pairs_of t d) ≡ None → Same (pairs_of t d) (erase k (pairs_of s c))
   takes_out h q = becomes None h q ∙ sym (look_erase q k (pairs_of s c))

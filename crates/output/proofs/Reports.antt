@@ -26,23 +26,23 @@ position_some k z ne = let some : eqb (nat_abs z) 0 ≡ false = ne_eqb (nat_abs 
 -- ---- The sums from a contract on
 
 module _ (sums : List ℤ) (k : ℕ) where
-  pub positions-more : k < length sums → positions_from k (drop k sums) ≡ position_text k (get_or sums k (pos 0)) ++ positions_from (k + 1) (drop (k + 1) sums)
-  positions-more within = at_drop_more (positions_from k) sums k (pos 0) within
+  pub positions_more : k < length sums → positions_from k (drop k sums) ≡ position_text k (get_or sums k (pos 0)) ++ positions_from (k + 1) (drop (k + 1) sums)
+  positions_more within = at_drop_more (positions_from k) sums k (pos 0) within
 
-  pub length-positions-more : k < length sums → length (positions_from k (drop k sums)) ≡ length (position_text k (get_or sums k (pos 0))) + length (positions_from (k + 1) (drop (k + 1) sums))
-  length-positions-more within = ap length (positions-more within) ∙ length-append (position_text k (get_or sums k (pos 0))) (positions_from (k + 1) (drop (k + 1) sums))
+  pub length_positions_more : k < length sums → length (positions_from k (drop k sums)) ≡ length (position_text k (get_or sums k (pos 0))) + length (positions_from (k + 1) (drop (k + 1) sums))
+  length_positions_more within = ap length (positions_more within) ∙ length-append (position_text k (get_or sums k (pos 0))) (positions_from (k + 1) (drop (k + 1) sums))
 
-  pub positions-all : length sums ≤ k → positions_from k (drop k sums) ≡ []
-  positions-all past = at_drop_all (positions_from k) sums k past
+  pub positions_all : length sums ≤ k → positions_from k (drop k sums) ≡ []
+  positions_all past = at_drop_all (positions_from k) sums k past
 
 -- ---- A text of which a front is written, and one part more
 
 module _ (text part rest : List ℕ) (at : ℕ) (left : drop at text ≡ part ++ rest) where
-  pub drop-part : drop (at + length part) text ≡ rest
-  drop-part = sym (drop-drop (length part) at text) ∙ ap (drop (length part)) left ∙ drop_at part rest (length part) refl
+  pub drop_part : drop (at + length part) text ≡ rest
+  drop_part = sym (drop-drop (length part) at text) ∙ ap (drop (length part)) left ∙ drop_at part rest (length part) refl
 
   pub take_part : take (at + length part) text ≡ take at text ++ part
   take_part = take-add at (length part) text ∙ ap (λ l. take at text ++ take (length part) l) left ∙ ap (λ l. take at text ++ l) (take_at part rest (length part) refl)
 
-  pub part-within : at ≤ length text → at + length part ≤ length text
-  part-within within = omega (arith, length-drop at text, ap length left, length-append part rest)
+  pub part_within : at ≤ length text → at + length part ≤ length text
+  part_within within = omega (arith, length-drop at text, ap length left, length-append part rest)

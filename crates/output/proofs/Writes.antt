@@ -55,8 +55,8 @@ short {buffer} {text} {after} {e} w = short_by buffer text e (fits buffer text) 
 -- ---- A buffer whose front was written, and then the front of its rest
 
 module _ (was one two : List ℕ) (n m : ℕ) (front after : List ℕ) where
-  pub rest-written : n ≡ length one → front ≡ one ++ drop n was → after ≡ two ++ drop m (take (length front - n) (drop n front)) → put_mid n (length front - n) front after ≡ (one ++ two) ++ drop (n + m) was
-  rest-written long f a =
+  pub rest_written : n ≡ length one → front ≡ one ++ drop n was → after ≡ two ++ drop m (take (length front - n) (drop n front)) → put_mid n (length front - n) front after ≡ (one ++ two) ++ drop (n + m) was
+  rest_written long f a =
       let begins : take n front ≡ one = ap (take n) f ∙ take_at one (drop n was) n (sym long) in
       let rests : drop n front ≡ drop n was = ap (drop n) f ∙ drop_at one (drop n was) n (sym long) in
       let part : take (length front - n) (drop n front) ≡ drop n was = take_rest front n ∙ rests in

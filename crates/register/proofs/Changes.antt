@@ -11,7 +11,7 @@ use Rattle.life.specs.Parts.{KeyParts, LifeParts, key_parts}
 use Rattle.life.proofs.Plain.{plain_look, plain_unique}
 use Rattle.measure.specs.Group.{Group}
 use Rattle.measure.specs.Totals.{total_of}
-use Rattle.measure.proofs.Sums.{total-same}
+use Rattle.measure.proofs.Sums.{total_same}
 
 -- ---- Look-ups
 
@@ -40,4 +40,4 @@ held_fits room k l xs fits found e = e ∙ ap (λ o. is_some o || ltb (length xs
 -- a total of lives is that of the store which holds them
 pub total_held : {V : Type 0} {nil : V} {joined : V → V → V} {inverse : V → V} (G : Group nil joined inverse) (weight : KeyParts → LifeParts → V)
     (xs : List (Key × Life)) (ls : Lives) (t : V) → pairs.Unique xs → Unique ls → Same (plain xs) ls → t ≡ total_of nil joined weight ls → t ≡ total_of nil joined weight (plain xs)
-total_held G weight xs ls t u w s e = e ∙ sym (total-same G weight (plain xs) ls (plain_unique xs u) w s)
+total_held G weight xs ls t u w s e = e ∙ sym (total_same G weight (plain xs) ls (plain_unique xs u) w s)

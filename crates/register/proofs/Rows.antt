@@ -111,15 +111,15 @@ module _ (room : ℕ) (k : KeyParts) (a : Action) (told : Life) (ls : Lives) whe
       }
 
   -- refused where a life stands
-  pub refused-standing : (l : LifeParts) (e : LifeFault) (r : Result (Unit {0}) ActFault) → look k ls ≡ Some l → Err (life_number e, life_field e) ≡ answered a (fault_in a told (Some l)) →
+  pub refused_standing : (l : LifeParts) (e : LifeFault) (r : Result (Unit {0}) ActFault) → look k ls ≡ Some l → Err (life_number e, life_field e) ≡ answered a (fault_in a told (Some l)) →
       IsErrAnd r (λ y. y ≡ LifeFault e) → Judged room k a told ls r ls
-  refused-standing l e r found h by =
+  refused_standing l e r found h by =
       refused e r by (ap (λ o. fit a told.time o full) found ∙ fit_standing a told l full ∙ act_refused a (published e) (fault_in a told (Some l)) h)
 
   -- refused where none stands
-  pub refused-absent : (e : LifeFault) (r : Result (Unit {0}) ActFault) → look k ls ≡ None → Err (life_number e, life_field e) ≡ begins told (fault_in a told None) →
+  pub refused_absent : (e : LifeFault) (r : Result (Unit {0}) ActFault) → look k ls ≡ None → Err (life_number e, life_field e) ≡ begins told (fault_in a told None) →
       IsErrAnd r (λ y. y ≡ LifeFault e) → Judged room k a told ls r ls
-  refused-absent e r none h by =
+  refused_absent e r none h by =
       refused e r by (ap (λ o. fit a told.time o full) none ∙ fit_absent a told (published e) full (first_refused told (published e) (fault_in a told None) h))
 
   -- accepted where a life stands
@@ -130,33 +130,33 @@ module _ (room : ℕ) (k : KeyParts) (a : Action) (told : Life) (ls : Lives) whe
       record { answers = sym row; holds = λ j. s j ∙ ap (λ o. look j (after o)) (sym row) }
 
   -- a life that stays
-  pub life-stays : (old new : LifeParts) (v : Outcome) (ls' : Lives) → look k ls ≡ Some old → v ≡ Stays → Ok v ≡ answered a (fault_in a told (Some old)) →
+  pub life_stays : (old new : LifeParts) (v : Outcome) (ls' : Lives) → look k ls ≡ Some old → v ≡ Stays → Ok v ≡ answered a (fault_in a told (Some old)) →
       new ≡ life_after a told (fault_in a told (Some old)) old → ((f : LifeParts → LifeParts) → f old ≡ new → Same ls' (altered k f ls)) → Judged room k a told ls (Ok tt) ls'
-  life-stays old new v ls' found e h i s =
+  life_stays old new v ls' found e h i s =
       let w = stays k told old new a (fault_in a told (Some old)) refl (ap Ok (sym e) ∙ h) i in
       accepted old ls' found w.accepts (λ j. s w.change w.makes j ∙ ap (look j) (sym (w.acts ls)))
 
   -- a life that ends
-  pub life-ends : (old : LifeParts) (v : Outcome) (ls' : Lives) → look k ls ≡ Some old → v ≡ Ends → Ok v ≡ answered a (fault_in a told (Some old)) →
+  pub life_ends : (old : LifeParts) (v : Outcome) (ls' : Lives) → look k ls ≡ Some old → v ≡ Ends → Ok v ≡ answered a (fault_in a told (Some old)) →
       Same ls' (erase k ls) → Judged room k a told ls (Ok tt) ls'
-  life-ends old v ls' found e h s =
+  life_ends old v ls' found e h s =
       let w = ends k told old a (fault_in a told (Some old)) refl (ap Ok (sym e) ∙ h) in
       accepted old ls' found w.accepts (λ j. s j ∙ ap (look j) (sym (w.acts ls)))
 
-  room-or-not : (b : Bool) → cond b ls ((k, new_life told.time told.quantity told.price) ∷ ls) ≡ lives_after (cond b (Some (47, 0)) None) k New (life_parts told) ls
-  room-or-not true = refl
-  room-or-not false = refl
+  room_or_not : (b : Bool) → cond b ls ((k, new_life told.time told.quantity told.price) ∷ ls) ≡ lives_after (cond b (Some (47, 0)) None) k New (life_parts told) ls
+  room_or_not true = refl
+  room_or_not false = refl
 
   -- a life that enters, if there is room
-  pub life-enters : (l : LifeParts) (r : Result (Unit {0}) ActFault) (ls' : Lives) → look k ls ≡ None → Ok l ≡ begins told (fault_in a told None) →
+  pub life_enters : (l : LifeParts) (r : Result (Unit {0}) ActFault) (ls' : Lives) → look k ls ≡ None → Ok l ≡ begins told (fault_in a told None) →
       refused_by r ≡ cond (leb room (length ls)) (Some (47, 0)) None → Same ls' (cond (leb room (length ls)) ls ((k, l) ∷ ls)) → Judged room k a told ls r ls'
-  life-enters l r ls' none h answer s =
+  life_enters l r ls' none h answer s =
       let new = begins_new a told l h in
       let row : fit a told.time (look k ls) full ≡ cond full (Some (47, 0)) None =
       ap (λ o. fit a told.time o full) none ∙ ap (λ b. fit b told.time None full) new.0 in
       let lives : cond full ls ((k, l) ∷ ls) ≡ after (fit a told.time (look k ls) full) =
       ap (λ x. cond full ls ((k, x) ∷ ls)) new.1
-      ∙ room-or-not full
+      ∙ room_or_not full
       ∙ ap (λ b. lives_after (cond full (Some (47, 0)) None) k b (life_parts told) ls) (sym new.0)
       ∙ ap after (sym row) in
       record { answers = answer ∙ sym row; holds = λ j. s j ∙ ap (look j) lives }

@@ -24,85 +24,85 @@ use Rattle.resends.specs.Marks.{MarkParts, NoReportLine, RefusedLine, LineOf, ma
 
 module _ (b : Book) (n : ℕ) (bs : Bytes) where
   -- an accepted line is fitted by no row
-  accepted-none : (v : Option (ℕ × ℕ)) → Accepted ≡ answered b (Judge n bs) v → v ≡ None
-  accepted-none None e = refl
-  accepted-none (Some r) e = let z : ◌≡◌ {A = ℕ} 0 1 = cc in absurd (omega arith)
+  accepted_none : (v : Option (ℕ × ℕ)) → Accepted ≡ answered b (Judge n bs) v → v ≡ None
+  accepted_none None e = refl
+  accepted_none (Some r) e = let z : ◌≡◌ {A = ℕ} 0 1 = cc in absurd (omega arith)
 
-  said-accepted : (x : Spoken) → answer_said x ≡ Accepted → x ≡ spoken.Accepted
-  said-accepted spoken.Accepted e = refl
-  said-accepted (spoken.Refused r) e = let z : ◌≡◌ {A = ℕ} 0 1 = cc in absurd (omega arith)
-  said-accepted (spoken.Receipt r) e = let z : ◌≡◌ {A = ℕ} 0 1 = cc in absurd (omega arith)
-  said-accepted (spoken.Found o) e = let z : ◌≡◌ {A = ℕ} 0 1 = cc in absurd (omega arith)
+  said_accepted : (x : Spoken) → answer_said x ≡ Accepted → x ≡ spoken.Accepted
+  said_accepted spoken.Accepted e = refl
+  said_accepted (spoken.Refused r) e = let z : ◌≡◌ {A = ℕ} 0 1 = cc in absurd (omega arith)
+  said_accepted (spoken.Receipt r) e = let z : ◌≡◌ {A = ℕ} 0 1 = cc in absurd (omega arith)
+  said_accepted (spoken.Found o) e = let z : ◌≡◌ {A = ℕ} 0 1 = cc in absurd (omega arith)
 
-  pub refused-line : (x : Spoken) → (x ≡ spoken.Accepted → ⊥) → answer_said x ≡ answer b (Judge n bs) → RefusedLine ≡ mark_in b (Judge n bs)
-  refused-line x no-accept e = by (verdict b (Judge n bs)) e
+  pub refused_line : (x : Spoken) → (x ≡ spoken.Accepted → ⊥) → answer_said x ≡ answer b (Judge n bs) → RefusedLine ≡ mark_in b (Judge n bs)
+  refused_line x no-accept e = by (verdict b (Judge n bs)) e
     where
       by : (v : Option (ℕ × ℕ)) → answer_said x ≡ answered b (Judge n bs) v → RefusedLine ≡ marked (subject b.contracts (Judge n bs)) v
       by (Some r) h = refl
-      by None h = absurd (no-accept (said-accepted x h))
+      by None h = absurd (no-accept (said_accepted x h))
 
-  none-looks : Accepted ≡ answer b (Judge n bs) → first_fit looking_rows (bs, told_by b.contracts bs) ≡ None
-  none-looks e =
-      let p : Passed b n bs = passed b n bs (accepted-none (verdict b (Judge n bs)) e) in
+  none_looks : Accepted ≡ answer b (Judge n bs) → first_fit looking_rows (bs, told_by b.contracts bs) ≡ None
+  none_looks e =
+      let p : Passed b n bs = passed b n bs (accepted_none (verdict b (Judge n bs)) e) in
       looking_parts b bs ∙ ap (λ o. or_else o (first_fit contract_list.market_rows (told_by b.contracts bs))) p.reads ∙ p.lists
 
-  claim-of : (v : Claimed) (c : Claim) (o : Option (ℕ × ℕ)) → o ≡ None → claim_in (Ok c) ≡ settled_by bs v o → claim_of c ≡ v
-  claim-of v c None h e = cc
-  claim-of v c (Some r) h e = let z : ◌≡◌ {A = ℕ} 0 1 = cc in absurd (omega arith)
+  claim_said_of : (v : Claimed) (c : Claim) (o : Option (ℕ × ℕ)) → o ≡ None → claim_in (Ok c) ≡ settled_by bs v o → claim_of c ≡ v
+  claim_said_of v c None h e = cc
+  claim_said_of v c (Some r) h e = let z : ◌≡◌ {A = ℕ} 0 1 = cc in absurd (omega arith)
 
-  no-fault : (v : Claimed) (x : LineFault) (o : Option (ℕ × ℕ)) → o ≡ None → claim_in (Err x) ≡ settled_by bs v o → ⊥
-  no-fault v x None h e = let z : ◌≡◌ {A = ℕ} 0 1 = cc in omega arith
-  no-fault v x (Some r) h e = let z : ◌≡◌ {A = ℕ} 0 1 = cc in omega arith
+  no_fault : (v : Claimed) (x : LineFault) (o : Option (ℕ × ℕ)) → o ≡ None → claim_in (Err x) ≡ settled_by bs v o → ⊥
+  no_fault v x None h e = let z : ◌≡◌ {A = ℕ} 0 1 = cc in omega arith
+  no_fault v x (Some r) h e = let z : ◌≡◌ {A = ℕ} 0 1 = cc in omega arith
 
   pub accepted_line : (cs : List Contract) (c : Claim) (error : Bool) → b.contracts ≡ cs → Accepted ≡ answer b (Judge n bs) → claim_in (Ok c) ≡ claiming cs bs → error ≡ is_error c.action →
       LineOf (key_parts c.key) error ≡ mark_in b (Judge n bs)
   accepted_line cs c error same e claims errs =
       let x : Told = told_by b.contracts bs in
-      let q : claim_of c ≡ claimed_by x = claim-of (claimed_by x) c (first_fit looking_rows (bs, x)) (none-looks e) (claims ∙ ap (λ l. claiming l bs) (sym same)) in
+      let q : claim_of c ≡ claimed_by x = claim_said_of (claimed_by x) c (first_fit looking_rows (bs, x)) (none_looks e) (claims ∙ ap (λ l. claiming l bs) (sym same)) in
       ap (LineOf (key_parts c.key)) errs
       ∙ ap (λ y. LineOf y.of_key (is_error y.acts)) q
-      ∙ ap (marked (subject b.contracts (Judge n bs))) (sym (accepted-none (verdict b (Judge n bs)) e))
+      ∙ ap (marked (subject b.contracts (Judge n bs))) (sym (accepted_none (verdict b (Judge n bs)) e))
 
   pub no_claim : (cs : List Contract) (x : LineFault) → b.contracts ≡ cs → Accepted ≡ answer b (Judge n bs) → claim_in (Err x) ≡ claiming cs bs → ⊥
   no_claim cs x same e claims =
-      no-fault (claimed_by (told_by b.contracts bs)) x (first_fit looking_rows (bs, told_by b.contracts bs)) (none-looks e) (claims ∙ ap (λ l. claiming l bs) (sym same))
+      no_fault (claimed_by (told_by b.contracts bs)) x (first_fit looking_rows (bs, told_by b.contracts bs)) (none_looks e) (claims ∙ ap (λ l. claiming l bs) (sym same))
 
 -- ---- Calls that judge no line
 
 -- a call that is neither an added contract nor a judged line has no mark, and leaves the contracts
 pub other_call : (x : Asked) (b : Book) (cs : List Contract) → ((t : Bor (List ℕ)) → x ≡ asked.AddContract t → ⊥) → ((n : ℕ) (t : Bor (List ℕ)) → x ≡ asked.Judge n t → ⊥) → b.contracts ≡ cs → MarksCall b (call_said x) NoReportLine cs
-other_call x b cs no_add no-judge same = record { marks = marks-so x no_add no-judge; lists = sym same ∙ lists-so x no_add no-judge (verdict b (call_said x)) }
+other_call x b cs no_add no-judge same = record { marks = marks_so x no_add no-judge; lists = sym same ∙ lists_so x no_add no-judge (verdict b (call_said x)) }
   where
-    marks-so : (x : Asked) → ((t : Bor (List ℕ)) → x ≡ asked.AddContract t → ⊥) → ((n : ℕ) (t : Bor (List ℕ)) → x ≡ asked.Judge n t → ⊥) → NoReportLine ≡ mark_in b (call_said x)
-    marks-so (asked.AddEntity t) p q = refl
-    marks-so (asked.AddContract t) p q = refl
-    marks-so (asked.NameFile t) p q = refl
-    marks-so (asked.Identify n t) p q = refl
-    marks-so (asked.Withdraw n) p q = refl
-    marks-so (asked.Close n) p q = refl
-    marks-so (asked.Judge n t) p q = absurd (q n t refl)
-    marks-so (asked.LookUp t) p q = refl
-    marks-so asked.Total p q = refl
+    marks_so : (x : Asked) → ((t : Bor (List ℕ)) → x ≡ asked.AddContract t → ⊥) → ((n : ℕ) (t : Bor (List ℕ)) → x ≡ asked.Judge n t → ⊥) → NoReportLine ≡ mark_in b (call_said x)
+    marks_so (asked.AddEntity t) p q = refl
+    marks_so (asked.AddContract t) p q = refl
+    marks_so (asked.NameFile t) p q = refl
+    marks_so (asked.Identify n t) p q = refl
+    marks_so (asked.Withdraw n) p q = refl
+    marks_so (asked.Close n) p q = refl
+    marks_so (asked.Judge n t) p q = absurd (q n t refl)
+    marks_so (asked.LookUp t) p q = refl
+    marks_so asked.Total p q = refl
 
-    lists-so : (x : Asked) → ((t : Bor (List ℕ)) → x ≡ asked.AddContract t → ⊥) → ((n : ℕ) (t : Bor (List ℕ)) → x ≡ asked.Judge n t → ⊥) → (v : Option (ℕ × ℕ)) → b.contracts ≡ (changed b (call_said x) v).contracts
-    lists-so (asked.AddEntity t) p q None = refl
-    lists-so (asked.AddContract t) p q None = absurd (p t refl)
-    lists-so (asked.NameFile t) p q None = refl
-    lists-so (asked.Identify n t) p q None = refl
-    lists-so (asked.Withdraw n) p q None = refl
-    lists-so (asked.Close n) p q None = refl
-    lists-so (asked.Judge n t) p q None = refl
-    lists-so (asked.LookUp t) p q None = refl
-    lists-so asked.Total p q None = refl
-    lists-so (asked.AddEntity t) p q (Some r) = refl
-    lists-so (asked.AddContract t) p q (Some r) = refl
-    lists-so (asked.NameFile t) p q (Some r) = refl
-    lists-so (asked.Identify n t) p q (Some r) = refl
-    lists-so (asked.Withdraw n) p q (Some r) = refl
-    lists-so (asked.Close n) p q (Some r) = refl
-    lists-so (asked.Judge n t) p q (Some r) = refl
-    lists-so (asked.LookUp t) p q (Some r) = refl
-    lists-so asked.Total p q (Some r) = refl
+    lists_so : (x : Asked) → ((t : Bor (List ℕ)) → x ≡ asked.AddContract t → ⊥) → ((n : ℕ) (t : Bor (List ℕ)) → x ≡ asked.Judge n t → ⊥) → (v : Option (ℕ × ℕ)) → b.contracts ≡ (changed b (call_said x) v).contracts
+    lists_so (asked.AddEntity t) p q None = refl
+    lists_so (asked.AddContract t) p q None = absurd (p t refl)
+    lists_so (asked.NameFile t) p q None = refl
+    lists_so (asked.Identify n t) p q None = refl
+    lists_so (asked.Withdraw n) p q None = refl
+    lists_so (asked.Close n) p q None = refl
+    lists_so (asked.Judge n t) p q None = refl
+    lists_so (asked.LookUp t) p q None = refl
+    lists_so asked.Total p q None = refl
+    lists_so (asked.AddEntity t) p q (Some r) = refl
+    lists_so (asked.AddContract t) p q (Some r) = refl
+    lists_so (asked.NameFile t) p q (Some r) = refl
+    lists_so (asked.Identify n t) p q (Some r) = refl
+    lists_so (asked.Withdraw n) p q (Some r) = refl
+    lists_so (asked.Close n) p q (Some r) = refl
+    lists_so (asked.Judge n t) p q (Some r) = refl
+    lists_so (asked.LookUp t) p q (Some r) = refl
+    lists_so asked.Total p q (Some r) = refl
 
 pub judged_call : (b : Book) (n : ℕ) (bs : Bytes) (m : MarkParts) (cs : List Contract) → b.contracts ≡ cs → m ≡ mark_in b (Judge n bs) → MarksCall b (Judge n bs) m cs
 judged_call b n bs m cs same e = record { marks = e; lists = sym same ∙ by (verdict b (Judge n bs)) }

@@ -58,11 +58,11 @@ pub no_marks : (ms : List Mark) (i : ℕ) → length ms ≤ i → drop i (marks_
 no_marks ms i h = drop_all i (marks_in ms) (omega (arith, length-map ms mark_parts))
 
 module _ (k : KeyParts) (ms : List Mark) (i : ℕ) (m : Mark) (h : i < length ms) (e : m ≡ get_or ms i m) where
-  pub struck-here : true ≡ strikes_at k (mark_parts m) → struck_in k (drop i (marks_in ms)) ≡ true
-  struck-here t = ap (struck_in k) (from_mark ms i m h e) ∙ or_left _ _ (sym t)
+  pub struck_here : true ≡ strikes_at k (mark_parts m) → struck_in k (drop i (marks_in ms)) ≡ true
+  struck_here t = ap (struck_in k) (from_mark ms i m h e) ∙ or_left _ _ (sym t)
 
-  pub struck-later : false ≡ strikes_at k (mark_parts m) → struck_in k (drop i (marks_in ms)) ≡ struck_in k (drop (i + 1) (marks_in ms))
-  struck-later t = ap (struck_in k) (from_mark ms i m h e) ∙ ap (λ b. b || struck_in k (drop (i + 1) (marks_in ms))) (sym t)
+  pub struck_later : false ≡ strikes_at k (mark_parts m) → struck_in k (drop i (marks_in ms)) ≡ struck_in k (drop (i + 1) (marks_in ms))
+  struck_later t = ap (struck_in k) (from_mark ms i m h e) ∙ ap (λ b. b || struck_in k (drop (i + 1) (marks_in ms))) (sym t)
 
 -- ---- Where the last Errors stand
 
@@ -163,13 +163,13 @@ module _ (cs : List Spoken) (ms : List Mark) (i : ℕ) (x : Spoken) (h : i < len
       ∙ ap (kept_calls (call_said x ∷ drop (i + 1) (calls_said cs))) at
       ∙ ap (λ zs. cond (leaves_out zs (mark_parts m)) rest (call_said x ∷ rest)) (sym at)
 
-  pub keeps-call : (b : Bool) → b ≡ false → ((n : Mark) → n ≡ get_or ms i n → b ≡ leaves_out (drop i (marks_in ms)) (mark_parts n)) →
+  pub keeps_call : (b : Bool) → b ≡ false → ((n : Mark) → n ≡ get_or ms i n → b ≡ leaves_out (drop i (marks_in ms)) (mark_parts n)) →
       kept_calls (drop i (calls_said cs)) (drop i (marks_in ms)) ≡ call_said x ∷ kept_calls (drop (i + 1) (calls_said cs)) (drop (i + 1) (marks_in ms))
-  keeps-call b f t = opened ∙ ap (λ o. cond o rest (call_said x ∷ rest)) (sym (t m (get_or_default ms i NoLine m (omega arith))) ∙ f)
+  keeps_call b f t = opened ∙ ap (λ o. cond o rest (call_said x ∷ rest)) (sym (t m (get_or_default ms i NoLine m (omega arith))) ∙ f)
 
-  pub leaves-call : (b : Bool) → b ≡ true → ((n : Mark) → n ≡ get_or ms i n → b ≡ leaves_out (drop i (marks_in ms)) (mark_parts n)) →
+  pub leaves_call : (b : Bool) → b ≡ true → ((n : Mark) → n ≡ get_or ms i n → b ≡ leaves_out (drop i (marks_in ms)) (mark_parts n)) →
       kept_calls (drop i (calls_said cs)) (drop i (marks_in ms)) ≡ kept_calls (drop (i + 1) (calls_said cs)) (drop (i + 1) (marks_in ms))
-  leaves-call b f t = opened ∙ ap (λ o. cond o rest (call_said x ∷ rest)) (sym (t m (get_or_default ms i NoLine m (omega arith))) ∙ f)
+  leaves_call b f t = opened ∙ ap (λ o. cond o rest (call_said x ∷ rest)) (sym (t m (get_or_default ms i NoLine m (omega arith))) ∙ f)
 
 -- one call more is kept, or left out
 module _ (cs : List Spoken) (ms : List Mark) (i : ℕ) (h : i < length cs) (long : length cs ≡ length ms) (all : List Call) (b : Bool) (out : (n : Mark) → n ≡ get_or ms i n → b ≡ leaves_out (drop i (marks_in ms)) (mark_parts n)) where
@@ -182,7 +182,7 @@ module _ (cs : List Spoken) (ms : List Mark) (i : ℕ) (h : i < length cs) (long
       ap (λ xs. calls_said xs ++ rest) e
       ∙ ap (λ xs. xs ++ rest) (map-append call_said left (x ∷ []))
       ∙ append_assoc (calls_said left) (call_said x ∷ []) rest
-      ∙ ap (λ xs. calls_said left ++ xs) (sym (keeps-call cs ms i x h long (get_or_default cs i d x h) b f out))
+      ∙ ap (λ xs. calls_said left ++ xs) (sym (keeps_call cs ms i x h long (get_or_default cs i d x h) b f out))
       ∙ inv
 
   pub kept_same : (d : Spoken) (left next : List Spoken) → b ≡ true → next ≡ left →
@@ -190,7 +190,7 @@ module _ (cs : List Spoken) (ms : List Mark) (i : ℕ) (h : i < length cs) (long
       calls_said next ++ kept_calls (drop (i + 1) (calls_said cs)) (drop (i + 1) (marks_in ms)) ≡ all
   kept_same d left next f e inv =
       ap (λ xs. calls_said xs ++ kept_calls (drop (i + 1) (calls_said cs)) (drop (i + 1) (marks_in ms))) e
-      ∙ ap (λ xs. calls_said left ++ xs) (sym (leaves-call cs ms i (get_or cs i d) h long (get_or_default cs i d (get_or cs i d) h) b f out))
+      ∙ ap (λ xs. calls_said left ++ xs) (sym (leaves_call cs ms i (get_or cs i d) h long (get_or_default cs i d (get_or cs i d) h) b f out))
       ∙ inv
 
 pub kept_all : (cs left : List Spoken) (ms : List Mark) (i : ℕ) (all : List Call) → length cs ≤ i →

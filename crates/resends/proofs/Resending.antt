@@ -41,7 +41,7 @@ module _ {V : Type 0} (nil : V) (joined : V → V → V) (weight : KeyParts → 
         first_run = r;
         leaves = e;
         second_run = q;
-        lines_accepted = subst (LinesAccepted left) (sym q.same-answers) (all_taken left start (subst (λ cs. EveryLineAccepted (log start cs)) (sym e) law.0));
+        lines_accepted = subst (LinesAccepted left) (sym q.same_answers) (all_taken left start (subst (λ cs. EveryLineAccepted (log start cs)) (sym e) law.0));
         same_capacity = two.same_capacity ∙ (tidy_law capacity left).as_made ∙ sym (one.same_capacity ∙ (tidy_law capacity calls).as_made);
         same_entities = two.same_entities ∙ ap (λ b. b.entities) kept ∙ law.1.same_entities ∙ sym one.same_entities;
         same_contracts = two.same_contracts ∙ ap (λ b. b.contracts) kept ∙ law.1.same_contracts ∙ sym one.same_contracts;

@@ -34,10 +34,10 @@ one_fitted bs v n f at (Some r) e =
     let a : n ≡ r.0 = cc in
     let b : f ≡ r.1 = cc in
     let c : at ≡ start r.1 (fields bs) = cc in
-    ((λ i. Some (sym-pair a b i)), c ∙ (λ i. start (sym-of b i) (fields bs)))
+    ((λ i. Some (sym_pair a b i)), c ∙ (λ i. start (sym_of b i) (fields bs)))
   where
-    sym-of : {x y : ℕ} → x ≡ y → y ≡ x
-    sym-of e = cc
+    sym_of : {x y : ℕ} → x ≡ y → y ≡ x
+    sym_of e = cc
 
-    sym-pair : {x y u w : ℕ} → x ≡ y → u ≡ w → ◌≡◌ {A = ℕ × ℕ} (y, w) (x, u)
-    sym-pair p q i = (sym-of p i, sym-of q i)
+    sym_pair : {x y u w : ℕ} → x ≡ y → u ≡ w → ◌≡◌ {A = ℕ × ℕ} (y, w) (x, u)
+    sym_pair p q i = (sym_of p i, sym_of q i)

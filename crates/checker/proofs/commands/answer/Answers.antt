@@ -11,11 +11,11 @@ returns-in-Ok c =
     let bs = c.args.line.now in
     let s : ltb 514 (length bs) ≡ false = grind (arith, nat_tests) in
     let e = none_fitted (drop 2 bs) _ _ _ (c.in-Ok.ensures ∙ ap reading (take_rest bs 2)) in
-    sym (as_report bs s (sym c.same-bytes.ensures ∙ c.if-not-same-bytes.false) ∙ e.0)
+    sym (as_report bs s (sym c.same_bytes.ensures ∙ c.if-not-same_bytes.false) ∙ e.0)
 
 pub returns-in-Err : goal.returns-in-Err
 returns-in-Err c =
     let bs = c.args.line.now in
     let s : ltb 514 (length bs) ≡ false = grind (arith, nat_tests) in
     let e = one_fitted (drop 2 bs) _ _ _ _ _ (c.in-Err.ensures ∙ ap reading (take_rest bs 2)) in
-    (λ i. Some (c.number.ensures i, c.field.ensures i)) ∙ sym (as_report bs s (sym c.same-bytes.ensures ∙ c.if-not-same-bytes.false) ∙ e.0)
+    (λ i. Some (c.number.ensures i, c.field.ensures i)) ∙ sym (as_report bs s (sym c.same_bytes.ensures ∙ c.if-not-same_bytes.false) ∙ e.0)

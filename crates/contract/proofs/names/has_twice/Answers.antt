@@ -5,14 +5,14 @@ use Rattle.contract.specs.ContractList.{repeats}
 use Rattle.contract.proofs.NameTexts.{twice_more}
 use Rattle.contract.proofs.names.has_twice.Goals as goal
 
-pub returns-then-is-among : goal.returns-then-is-among
-returns-then-is-among c =
+pub returns-then-is_among : goal.returns-then-is_among
+returns-then-is_among c =
     sym (sym c.loop-i.invariant
-    ∙ twice_more c.args.texts.now _ _ _ _ c.loop-i-test.true c.index-texts-i.is c.as-slice.ensures c.if-is-among.ensures)
+    ∙ twice_more c.args.texts.now _ _ _ _ c.loop-i-test.true c.index-texts-i.is c.as_slice.ensures c.if-is_among.ensures)
 
 pub loop-i-preserved : goal.loop-i-preserved
 loop-i-preserved c =
-    sym (twice_more c.args.texts.now _ _ _ _ c.loop-i-test.true c.index-texts-i.is c.as-slice.ensures c.if-is-among.ensures)
+    sym (twice_more c.args.texts.now _ _ _ _ c.loop-i-test.true c.index-texts-i.is c.as_slice.ensures c.if-is_among.ensures)
     ∙ c.loop-i.invariant
 
 pub returns : goal.returns

@@ -3,4 +3,4 @@ use Rattle.life.proofs.fnv.hash.Goals as goal
 
 pub returns : goal.returns
 unfolding word_of
-returns c = c.hash-on.ensures
+returns c = c.hash_on.ensures

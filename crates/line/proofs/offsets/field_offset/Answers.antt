@@ -7,9 +7,9 @@ use Rattle.line.proofs.offsets.field_offset.Goals as goal
 pub loop-left-preserved : goal.loop-left-preserved
 loop-left-preserved c =
     let rest = take_rest c.args.text.now c.loop-left.at in
-    let s = c.span-to.ensures.value ∙ ap (span_to 59) rest in (
-      omega (arith, c.span-to.ensures.within),
-      sym (further c.loop-left.left c.loop-left.at c.span-to.result c.args.text.now c.loop-left-test.true c.if-at-text.true s) ∙ c.loop-left.invariant.1,
+    let s = c.span_to.ensures.value ∙ ap (span_to 59) rest in (
+      omega (arith, c.span_to.ensures.within),
+      sym (further c.loop-left.left c.loop-left.at c.span_to.result c.args.text.now c.loop-left-test.true c.if-at-text.true s) ∙ c.loop-left.invariant.1,
     )
 
 pub returns-after-loop-left : goal.returns-after-loop-left

@@ -1,7 +1,7 @@
 use Rattle.std.proofs.Common.{◌≡◌, sym, ap}
 use Rattle.life.specs.Parts.{key_parts, life_parts}
 use Rattle.measure.specs.Totals.{while_open, share}
-use Rattle.measure.proofs.Sums.{unit-right, total-come}
+use Rattle.measure.proofs.Sums.{unit_right, total_come}
 use Rattle.measure.proofs.total.come.Goals as goal
 
 pub returns-in-Open : goal.returns-in-Open
@@ -10,7 +10,7 @@ returns-in-Open g c =
     let k = key_parts c.args.key.now in
     let l = life_parts c.args.life.now in
     let brings : m.weight k l ≡ share m.nil m.weight k l = ap (λ s. while_open m.nil s (m.weight k l)) (sym c.in-Open.is) in
-    record { joins = cc; sums = λ ps qs e. let there = total-come m.laws m.weight ps k l qs in cc }
+    record { joins = cc; sums = λ ps qs e. let there = total_come m.laws m.weight ps k l qs in cc }
 
 pub returns-in-Cancelled : goal.returns-in-Cancelled
 returns-in-Cancelled g c =
@@ -18,5 +18,5 @@ returns-in-Cancelled g c =
     let k = key_parts c.args.key.now in
     let l = life_parts c.args.life.now in
     let brings : m.nil ≡ share m.nil m.weight k l = ap (λ s. while_open m.nil s (m.weight k l)) (sym c.in-Cancelled.is) in
-    let same = unit-right m.laws c.args.sum.now in
-    record { joins = cc; sums = λ ps qs e. let there = total-come m.laws m.weight ps k l qs in cc }
+    let same = unit_right m.laws c.args.sum.now in
+    record { joins = cc; sums = λ ps qs e. let there = total_come m.laws m.weight ps k l qs in cc }

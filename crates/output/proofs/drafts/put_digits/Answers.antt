@@ -7,8 +7,8 @@ use Rattle.output.proofs.drafts.put_digits.Goals as goal
 pub loop-rest-init : goal.loop-rest-init
 loop-rest-init c = (append-nil _, at_most_twenty c.args.n (omega arith), omega arith, refl, omega arith)
 
-pub overflow-sub-from : goal.overflow-sub-from
-overflow-sub-from c = omega (arith, decimal_nonempty c.loop-rest.rest c.loop-rest.invariant.4)
+pub overflow_sub-from : goal.overflow_sub-from
+overflow_sub-from c = omega (arith, decimal_nonempty c.loop-rest.rest c.loop-rest.invariant.4)
 
 pub loop-rest-preserved : goal.loop-rest-preserved
 loop-rest-preserved c =
@@ -23,8 +23,8 @@ loop-rest-preserved c =
       omega arith,
     )
 
-pub overflow-sub-from-2 : goal.overflow-sub-from-2
-overflow-sub-from-2 c = omega (arith, decimal_nonempty c.loop-rest.rest c.loop-rest.invariant.4)
+pub overflow_sub-from-2 : goal.overflow_sub-from-2
+overflow_sub-from-2 c = omega (arith, decimal_nonempty c.loop-rest.rest c.loop-rest.invariant.4)
 
 pub returns : goal.returns
 returns c =

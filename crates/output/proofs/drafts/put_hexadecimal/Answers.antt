@@ -10,10 +10,10 @@ loop-from-preserved c =
     let i = c.loop-from.invariant in
     let ds = c.loop-from.digits in
     let k = c.loop-from.from in
-    let digit = c.hex-digit.result in
+    let digit = c.hex_digit.result in
     let text = hexadecimal 16 c.args.word in
     let turned = hexadecimal_turn text ds k c.loop-from.rest (omega arith) (omega (arith, i.3)) i.0 in (
-      subst (λ v. hexadecimal (k - 1) (c.loop-from.rest / 16) ++ drop (k - 1 + 1) (set ds k v) ≡ text) (sym c.hex-digit.ensures) turned,
+      subst (λ v. hexadecimal (k - 1) (c.loop-from.rest / 16) ++ drop (k - 1 + 1) (set ds k v) ≡ text) (sym c.hex_digit.ensures) turned,
       take-set-le 1 ds k digit (omega arith) ∙ i.1,
       omega arith,
       length-set ds k digit ∙ i.3,

@@ -10,11 +10,11 @@ pub returns-then-n-lt0 : goal.returns-then-n-lt0
 returns-then-n-lt0 c =
     let z = c.args.n in
     let same = to_z-of_z w64 z c.ranges.n in
-    let size : c.unsigned-abs.result ≡ nat_abs z = c.unsigned-abs.ensures.value ∙ ap nat_abs same in
+    let size : c.unsigned_abs.result ≡ nat_abs z = c.unsigned_abs.ensures.value ∙ ap nat_abs same in
     let text = ap (λ k. 45 ∷ decimal k) size ∙ sym (signed_below z (ap (λ y. lt_z y (pos 0)) (sym same) ∙ c.if-n-lt0.true)) in
-    let both = then c.put-start.ensures c.put-digits.ensures.put in
+    let both = then c.put-start.ensures c.put_digits.ensures.put in
     record {
-      put = subst (λ t. Put c.args.line.now c.args.at (32 ∷ t) c.put-digits.result c.put-digits.new.line) text both;
+      put = subst (λ t. Put c.args.line.now c.args.at (32 ∷ t) c.put_digits.result c.put_digits.new.line) text both;
       within = omega (arith, c.put-start.ensures.ends);
     }
 
@@ -22,9 +22,9 @@ pub returns-else-n-lt0 : goal.returns-else-n-lt0
 returns-else-n-lt0 c =
     let z = c.args.n in
     let same = to_z-of_z w64 z c.ranges.n in
-    let size : c.unsigned-abs-else-n-lt0.result ≡ nat_abs z = c.unsigned-abs-else-n-lt0.ensures.value ∙ ap nat_abs same in
+    let size : c.unsigned_abs-else-n-lt0.result ≡ nat_abs z = c.unsigned_abs-else-n-lt0.ensures.value ∙ ap nat_abs same in
     let text = ap decimal size ∙ sym (signed_from z (ap (λ y. lt_z y (pos 0)) (sym same) ∙ c.if-n-lt0.false)) in
     record {
-      put = subst (λ t. Put c.args.line.now c.args.at (32 ∷ t) c.put-number.result c.put-number.new.line) text c.put-number.ensures.put;
+      put = subst (λ t. Put c.args.line.now c.args.at (32 ∷ t) c.put_number.result c.put_number.new.line) text c.put_number.ensures.put;
       within = omega arith;
     }

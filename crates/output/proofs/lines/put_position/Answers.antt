@@ -7,8 +7,8 @@ use Rattle.output.proofs.lines.put_position.Goals as goal
 
 pub returns : goal.returns
 returns c =
-    let text = then c.put-n.ensures (then c.put-number-n.ensures.put c.put-signed.ensures.put) in
+    let text = then c.put-n.ensures (then c.put_number-n.ensures.put c.put_signed.ensures.put) in
     record {
-      put = subst (λ z. Put c.args.line.now 0 (codes "T" ++ (32 ∷ (decimal c.args.contract ++ (32 ∷ signed_decimal z)))) c.put-signed.result c.put-signed.new.line) (to_z-of_z w64 c.args.sum c.ranges.sum) text;
+      put = subst (λ z. Put c.args.line.now 0 (codes "T" ++ (32 ∷ (decimal c.args.contract ++ (32 ∷ signed_decimal z)))) c.put_signed.result c.put_signed.new.line) (to_z-of_z w64 c.args.sum c.ranges.sum) text;
       within = omega (arith, c.put-n.ensures.ends);
     }

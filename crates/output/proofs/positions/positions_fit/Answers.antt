@@ -2,7 +2,7 @@ use Rattle.std.proofs.Common.{length, get_or, ℤ, pos, sym, ap, ◌∙◌, arit
 use borrow.Author.Tests.{lt-leb}
 use Rattle.std.proofs.lemmas.Int.{to_z-of_z}
 use Rattle.output.specs.Positions.{position_text, positions_text}
-use Rattle.output.proofs.Reports.{length-positions-more, positions-all}
+use Rattle.output.proofs.Reports.{length_positions_more, positions_all}
 use Rattle.output.proofs.positions.positions_fit.Goals as goal
 
 pub returns-then-n-left : goal.returns-then-n-left
@@ -11,8 +11,8 @@ returns-then-n-left c =
     let k = c.loop-contract.contract in
     let z : ℤ = get_or sums k (pos 0) in
     let fits : SFits w64 z = search rules in
-    let long = c.position-length-n.ensures ∙ ap (λ y. length (position_text k y)) (to_z-of_z w64 z fits) in
-    let more = length-positions-more sums k c.loop-contract-test.true in
+    let long = c.position_length-n.ensures ∙ ap (λ y. length (position_text k y)) (to_z-of_z w64 z fits) in
+    let more = length_positions_more sums k c.loop-contract-test.true in
     sym (lt-leb (length (positions_text sums)) c.args.room (omega (arith, long, more, c.loop-contract.invariant)))
 
 pub loop-contract-preserved : goal.loop-contract-preserved
@@ -21,12 +21,12 @@ loop-contract-preserved c =
     let k = c.loop-contract.contract in
     let z : ℤ = get_or sums k (pos 0) in
     let fits : SFits w64 z = search rules in
-    let long = c.position-length-n.ensures ∙ ap (λ y. length (position_text k y)) (to_z-of_z w64 z fits) in
-    let more = length-positions-more sums k c.loop-contract-test.true in
+    let long = c.position_length-n.ensures ∙ ap (λ y. length (position_text k y)) (to_z-of_z w64 z fits) in
+    let more = length_positions_more sums k c.loop-contract-test.true in
     omega (arith, long, more, c.loop-contract.invariant)
 
 pub returns : goal.returns
 returns c =
     let sums = c.args.sums.now in
-    let none = ap length (positions-all sums c.loop-contract.contract c.loop-contract-test.false) in
+    let none = ap length (positions_all sums c.loop-contract.contract c.loop-contract-test.false) in
     sym (le-leb (length (positions_text sums)) c.args.room (omega (arith, none, c.loop-contract.invariant)))

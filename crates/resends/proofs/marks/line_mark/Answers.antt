@@ -1,11 +1,11 @@
 use Rattle.std.proofs.Common.{sym, refl, ap, ◌∙◌}
 use Rattle.contract.specs.Held.{contracts_of}
 use Rattle.calls.specs.Said.{answer_said}
-use Rattle.resends.proofs.Lines.{refused-line, accepted_line, no_claim}
+use Rattle.resends.proofs.Lines.{refused_line, accepted_line, no_claim}
 use Rattle.resends.proofs.marks.line_mark.Goals as goal
 
-pub returns-in-default : goal.returns-in-default
-returns-in-default c b n same e = refused-line b n c.args.line.now c.args.answer.now c.in-default.not-Accepted e
+pub returns-in_default : goal.returns-in_default
+returns-in_default c b n same e = refused_line b n c.args.line.now c.args.answer.now c.in_default.not-Accepted e
 
 pub returns-in-Ok : goal.returns-in-Ok
 returns-in-Ok c b n same e =

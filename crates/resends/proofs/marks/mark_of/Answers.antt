@@ -11,8 +11,8 @@ returns-in-Judge c b same e =
     let n = c.in-Judge.field-0 in
     let line = c.in-Judge.line.now in
     let listed = contracts_of c.args.contracts.now in
-    subst (λ x. MarksCall b (call_said x) (mark_parts c.line-mark.result) listed) (sym c.in-Judge.is)
-    (judged_call b n line (mark_parts c.line-mark.result) listed same (c.line-mark.ensures b n same (e ∙ ap (λ x. answer b (call_said x)) c.in-Judge.is)))
+    subst (λ x. MarksCall b (call_said x) (mark_parts c.line_mark.result) listed) (sym c.in-Judge.is)
+    (judged_call b n line (mark_parts c.line_mark.result) listed same (c.line_mark.ensures b n same (e ∙ ap (λ x. answer b (call_said x)) c.in-Judge.is)))
 
-pub returns-in-default : goal.returns-in-default
-returns-in-default c b same e = other_call c.args.call.now b (contracts_of c.args.contracts.now) c.in-default.not-AddContract c.in-default.not-Judge same
+pub returns-in_default : goal.returns-in_default
+returns-in_default c b same e = other_call c.args.call.now b (contracts_of c.args.contracts.now) c.in_default.not-AddContract c.in_default.not-Judge same

@@ -9,8 +9,8 @@ use Rattle.text.proofs.codes.is_code.Goals as goal
 pub returns-then-text-ne12 : goal.returns-then-text-ne12
 returns-then-text-ne12 c = sym (code_by c.args.text.now false _ _ _ (grind (arith, nat_tests)) refl refl refl)
 
-pub returns-then-not-all-of : goal.returns-then-not-all-of
-returns-then-not-all-of c = sym (code_by c.args.text.now true false _ _ (grind (arith, nat_tests)) (cc) refl refl)
+pub returns-then-not-all_of : goal.returns-then-not-all_of
+returns-then-not-all_of c = sym (code_by c.args.text.now true false _ _ (grind (arith, nat_tests)) (cc) refl refl)
 
 pub returns-then-text-ne46 : goal.returns-then-text-ne46
 returns-then-text-ne46 c = sym (code_by c.args.text.now true true false _ (grind (arith, nat_tests)) (cc) (grind (arith, nat_tests)) refl)
@@ -18,4 +18,4 @@ returns-then-text-ne46 c = sym (code_by c.args.text.now true true false _ (grind
 pub returns : goal.returns
 returns c =
     sym (code_by c.args.text.now true true true _ (grind (arith, nat_tests)) (cc) (grind (arith, nat_tests))
-    (ap (every is_ascii_uppercase) (sym (take_rest c.args.text.now 10)) ∙ sym c.all-of-2.ensures))
+    (ap (every is_ascii_uppercase) (sym (take_rest c.args.text.now 10)) ∙ sym c.all_of-2.ensures))

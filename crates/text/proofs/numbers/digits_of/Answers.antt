@@ -4,8 +4,8 @@ use Rattle.std.proofs.lemmas.Bool.Decides.{nat_tests}
 use Rattle.text.proofs.Leaves.{every_yes, every_no, every_all, written_more, written_all, power_more, power_ten}
 use Rattle.text.proofs.numbers.digits_of.Goals as goal
 
-pub returns-then-not-is-ascii-digit : goal.returns-then-not-is-ascii-digit
-returns-then-not-is-ascii-digit c = grind (arith, nat_tests, every_no is_ascii_digit)
+pub returns-then-not-is_ascii_digit : goal.returns-then-not-is_ascii_digit
+returns-then-not-is_ascii_digit c = grind (arith, nat_tests, every_no is_ascii_digit)
 
 pub loop-b-preserved : goal.loop-b-preserved
 loop-b-preserved c = (

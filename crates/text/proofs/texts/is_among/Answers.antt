@@ -5,14 +5,14 @@ use Rattle.text.specs.Texts.{texts_of}
 use Rattle.text.proofs.Amongs.{among_from}
 use Rattle.text.proofs.texts.is_among.Goals as goal
 
-pub returns-then-same-bytes : goal.returns-then-same-bytes
-returns-then-same-bytes g c =
+pub returns-then-same_bytes : goal.returns-then-same_bytes
+returns-then-same_bytes g c =
     sym (sym c.loop-t.invariant
-    ∙ among_from c.args.texts.now c.args.text.now _ _ _ _ c.loop-t-test.true c.t-item.is c.as-slice.ensures c.if-same-bytes.ensures)
+    ∙ among_from c.args.texts.now c.args.text.now _ _ _ _ c.loop-t-test.true c.t-item.is c.as_slice.ensures c.if-same_bytes.ensures)
 
 pub loop-t-preserved : goal.loop-t-preserved
 loop-t-preserved g c =
-    sym (among_from c.args.texts.now c.args.text.now _ _ _ _ c.loop-t-test.true c.t-item.is c.as-slice.ensures c.if-same-bytes.ensures)
+    sym (among_from c.args.texts.now c.args.text.now _ _ _ _ c.loop-t-test.true c.t-item.is c.as_slice.ensures c.if-same_bytes.ensures)
     ∙ c.loop-t.invariant
 
 pub returns : goal.returns

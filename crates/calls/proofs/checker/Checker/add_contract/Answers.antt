@@ -3,7 +3,7 @@ use Rattle.book.specs.Book.{AddContract}
 use Rattle.calls.specs.Held.{book_in, total_in}
 use Rattle.calls.specs.Said.{contract_answer}
 use Rattle.calls.proofs.Checkers.{continues}
-use Rattle.calls.proofs.Moves.{contract-step}
+use Rattle.calls.proofs.Moves.{contract_step}
 use Rattle.calls.proofs.checker.Checker.add_contract.Goals as goal
 
 pub returns : goal.returns
@@ -12,4 +12,4 @@ returns g c =
     let s = g.S.Store in
     let was = c.args.self.now in
     continues s.room s.pairs s.unique m.laws m.weight was (record { register = was.register; entities = was.entities; contracts = c.add.new.self; files = was.files }) (AddContract c.args.text.now) (contract_answer c.add.result)
-    (contract-step m.nil m.joined m.weight (book_in s.room s.pairs was) was.register.total c.args.text.now c.add.result (contracts_of c.add.new.self) c.add.ensures.told c.add.ensures.list)
+    (contract_step m.nil m.joined m.weight (book_in s.room s.pairs was) was.register.total c.args.text.now c.add.result (contracts_of c.add.new.self) c.add.ensures.told c.add.ensures.list)

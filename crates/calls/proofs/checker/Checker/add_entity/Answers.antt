@@ -3,7 +3,7 @@ use Rattle.book.specs.Book.{AddEntity}
 use Rattle.calls.specs.Held.{book_in, total_in}
 use Rattle.calls.specs.Said.{entity_answer}
 use Rattle.calls.proofs.Checkers.{continues}
-use Rattle.calls.proofs.Moves.{entity-step}
+use Rattle.calls.proofs.Moves.{entity_step}
 use Rattle.calls.proofs.checker.Checker.add_entity.Goals as goal
 
 pub returns : goal.returns
@@ -12,4 +12,4 @@ returns g c =
     let s = g.S.Store in
     let was = c.args.self.now in
     continues s.room s.pairs s.unique m.laws m.weight was (record { register = was.register; entities = c.add.new.self; contracts = was.contracts; files = was.files }) (AddEntity c.args.code.now) (entity_answer c.add.result)
-    (entity-step m.nil m.joined m.weight (book_in s.room s.pairs was) was.register.total c.args.code.now c.add.result (known c.add.new.self) c.add.ensures.told c.add.ensures.list)
+    (entity_step m.nil m.joined m.weight (book_in s.room s.pairs was) was.register.total c.args.code.now c.add.result (known c.add.new.self) c.add.ensures.told c.add.ensures.list)

@@ -3,7 +3,7 @@ use Rattle.book.specs.Book.{Judge, Total, Accepted}
 use Rattle.calls.specs.Held.{book_in, total_in, Replies}
 use Rattle.calls.specs.Said.{call_said, answer_said, Answering, Totalling, judge_answer}
 use Rattle.calls.proofs.Checkers.{continues}
-use Rattle.calls.proofs.Moves.{total-step}
+use Rattle.calls.proofs.Moves.{total_step}
 use Rattle.calls.proofs.checker.Checker.call.Goals as goal
 
 pub returns-in-Judge : goal.returns-in-Judge
@@ -11,13 +11,13 @@ returns-in-Judge g c =
     let m = g.M.Measure in
     let s = g.S.Store in
     let was = c.args.self.now in
-    let is = c.judge-at.new.self in
+    let is = c.judge_at.new.self in
     record {
       follows =
-          subst (λ x. Replies s.room s.pairs m.nil m.joined m.weight was (call_said x) (Answering (answer_said c.of-judging.result)) is) (sym c.in-Judge.is)
+          subst (λ x. Replies s.room s.pairs m.nil m.joined m.weight was (call_said x) (Answering (answer_said c.of_judging.result)) is) (sym c.in-Judge.is)
           (λ capacity past f.
-          let goes = continues s.room s.pairs s.unique m.laws m.weight was is (Judge c.in-Judge.number c.in-Judge.line.now) (judge_answer c.judge-at.result) c.judge-at.ensures capacity past f in
-          (ap Answering (c.of-judging.ensures ∙ goes.0), goes.1));
+          let goes = continues s.room s.pairs s.unique m.laws m.weight was is (Judge c.in-Judge.number c.in-Judge.line.now) (judge_answer c.judge_at.result) c.judge_at.ensures capacity past f in
+          (ap Answering (c.of_judging.ensures ∙ goes.0), goes.1));
       memory = tt;
     }
 
@@ -28,8 +28,8 @@ returns-in-LookUp g c =
     let was = c.args.self.now in
     record {
       follows =
-          subst (λ x. Replies s.room s.pairs m.nil m.joined m.weight was (call_said x) (Answering (answer_said c.of-finding.result)) was) (sym c.in-LookUp.is)
-          (λ capacity past f. let goes = c.look-up.ensures capacity past f in (ap Answering (c.of-finding.ensures ∙ goes.0), goes.1));
+          subst (λ x. Replies s.room s.pairs m.nil m.joined m.weight was (call_said x) (Answering (answer_said c.of_finding.result)) was) (sym c.in-LookUp.is)
+          (λ capacity past f. let goes = c.look_up.ensures capacity past f in (ap Answering (c.of_finding.ensures ∙ goes.0), goes.1));
       memory = tt;
     }
 
@@ -42,7 +42,7 @@ returns-in-Total g c =
       follows =
           subst (λ x. Replies s.room s.pairs m.nil m.joined m.weight was (call_said x) (Totalling c.copied.result) was) (sym c.in-Total.is)
           (λ capacity past f.
-          let goes = continues s.room s.pairs s.unique m.laws m.weight was was Total Accepted (total-step m.nil m.joined m.weight (book_in s.room s.pairs was) was.register.total) capacity past f in
+          let goes = continues s.room s.pairs s.unique m.laws m.weight was was Total Accepted (total_step m.nil m.joined m.weight (book_in s.room s.pairs was) was.register.total) capacity past f in
           (ap Totalling (c.copied.ensures ∙ c.total.ensures ∙ f.sums), goes.1));
       memory = tt;
     }

@@ -3,7 +3,7 @@ use Rattle.book.specs.Book.{Close}
 use Rattle.calls.specs.Held.{book_in, total_in}
 use Rattle.calls.specs.Said.{ending_answer}
 use Rattle.calls.proofs.Checkers.{continues}
-use Rattle.calls.proofs.Moves.{close-step}
+use Rattle.calls.proofs.Moves.{close_step}
 use Rattle.calls.proofs.checker.Checker.close.Goals as goal
 
 pub returns : goal.returns
@@ -12,4 +12,4 @@ returns g c =
     let s = g.S.Store in
     let was = c.args.self.now in
     continues s.room s.pairs s.unique m.laws m.weight was (record { register = was.register; entities = was.entities; contracts = was.contracts; files = c.close.new.self }) (Close c.args.file.number) (ending_answer c.close.result)
-    (close-step m.nil m.joined m.weight (book_in s.room s.pairs was) was.register.total c.args.file.number c.close.result (files_of c.close.new.self) c.close.ensures.told c.close.ensures.counts c.close.ensures.list)
+    (close_step m.nil m.joined m.weight (book_in s.room s.pairs was) was.register.total c.args.file.number c.close.result (files_of c.close.new.self) c.close.ensures.told c.close.ensures.counts c.close.ensures.list)

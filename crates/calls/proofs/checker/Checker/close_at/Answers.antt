@@ -3,7 +3,7 @@ use Rattle.book.specs.Book.{Close}
 use Rattle.calls.specs.Held.{book_in, total_in}
 use Rattle.calls.specs.Said.{ending_answer}
 use Rattle.calls.proofs.Checkers.{continues}
-use Rattle.calls.proofs.Moves.{close-step}
+use Rattle.calls.proofs.Moves.{close_step}
 use Rattle.calls.proofs.checker.Checker.close_at.Goals as goal
 
 pub returns : goal.returns
@@ -11,6 +11,6 @@ returns g c =
     let m = g.M.Measure in
     let s = g.S.Store in
     let was = c.args.self.now in
-    let call = c.close-at in
+    let call = c.close_at in
     continues s.room s.pairs s.unique m.laws m.weight was (record { register = was.register; entities = was.entities; contracts = was.contracts; files = call.new.self }) (Close c.args.number) (ending_answer call.result)
-    (close-step m.nil m.joined m.weight (book_in s.room s.pairs was) was.register.total c.args.number call.result (files_of call.new.self) call.ensures.told call.ensures.counts call.ensures.list)
+    (close_step m.nil m.joined m.weight (book_in s.room s.pairs was) was.register.total c.args.number call.result (files_of call.new.self) call.ensures.told call.ensures.counts call.ensures.list)

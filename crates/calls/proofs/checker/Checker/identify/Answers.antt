@@ -3,7 +3,7 @@ use Rattle.book.specs.Book.{Identify}
 use Rattle.calls.specs.Held.{book_in, total_in}
 use Rattle.calls.specs.Said.{token_answer}
 use Rattle.calls.proofs.Checkers.{continues}
-use Rattle.calls.proofs.Moves.{token-step}
+use Rattle.calls.proofs.Moves.{token_step}
 use Rattle.calls.proofs.checker.Checker.identify.Goals as goal
 
 pub returns : goal.returns
@@ -15,5 +15,5 @@ returns g c =
       token = c.identify.ensures.token;
       follows =
           continues s.room s.pairs s.unique m.laws m.weight was (record { register = was.register; entities = was.entities; contracts = was.contracts; files = c.identify.new.self }) (Identify c.args.file.number c.args.code.now) (token_answer c.identify.result)
-          (token-step m.nil m.joined m.weight (book_in s.room s.pairs was) was.register.total c.args.file.number c.args.code.now c.identify.result (files_of c.identify.new.self) c.identify.ensures.told c.identify.ensures.list);
+          (token_step m.nil m.joined m.weight (book_in s.room s.pairs was) was.register.total c.args.file.number c.args.code.now c.identify.result (files_of c.identify.new.self) c.identify.ensures.told c.identify.ensures.list);
     }

@@ -3,7 +3,7 @@ use Rattle.book.specs.Book.{Identify}
 use Rattle.calls.specs.Held.{book_in, total_in}
 use Rattle.calls.specs.Said.{identify_answer}
 use Rattle.calls.proofs.Checkers.{continues}
-use Rattle.calls.proofs.Moves.{identify-step}
+use Rattle.calls.proofs.Moves.{identify_step}
 use Rattle.calls.proofs.checker.Checker.identify_at.Goals as goal
 
 pub returns : goal.returns
@@ -11,6 +11,6 @@ returns g c =
     let m = g.M.Measure in
     let s = g.S.Store in
     let was = c.args.self.now in
-    let call = c.identify-at in
+    let call = c.identify_at in
     continues s.room s.pairs s.unique m.laws m.weight was (record { register = was.register; entities = was.entities; contracts = was.contracts; files = call.new.self }) (Identify c.args.number c.args.code.now) (identify_answer call.result)
-    (identify-step m.nil m.joined m.weight (book_in s.room s.pairs was) was.register.total c.args.number c.args.code.now call.result (files_of call.new.self) call.ensures.told call.ensures.list)
+    (identify_step m.nil m.joined m.weight (book_in s.room s.pairs was) was.register.total c.args.number c.args.code.now call.result (files_of call.new.self) call.ensures.told call.ensures.list)

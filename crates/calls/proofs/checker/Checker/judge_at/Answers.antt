@@ -8,6 +8,6 @@ returns g c =
     let m = g.M.Measure in
     let s = g.S.Store in
     let was = c.args.self.now in
-    let mid = c.try-line-answer.new.self in
+    let mid = c.try_line-answer.new.self in
     counted_step m.nil m.joined m.weight (book_in s.room s.pairs was) (book_in s.room s.pairs mid) was.register.total mid.register.total c.args.number c.args.line.now
-    c.try-line-answer.result c.is-ok.result (files_of c.count-line.new.self) c.try-line-answer.ensures c.is-ok.ensures.value c.count-line.ensures.list
+    c.try_line-answer.result c.is_ok.result (files_of c.count_line.new.self) c.try_line-answer.ensures c.is_ok.ensures.value c.count_line.ensures.list

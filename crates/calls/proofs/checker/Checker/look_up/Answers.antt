@@ -4,19 +4,19 @@ use Rattle.book.specs.Book.{LookUp}
 use Rattle.calls.specs.Held.{book_in, total_in, Continues}
 use Rattle.calls.specs.Said.{finding_answer}
 use Rattle.calls.proofs.Checkers.{continues}
-use Rattle.calls.proofs.Moves.{look-step}
+use Rattle.calls.proofs.Moves.{look_step}
 use Rattle.calls.proofs.checker.Checker.look_up.Goals as goal
 
-pub returns-in-err-claim : goal.returns-in-err-claim
-returns-in-err-claim g c =
+pub returns-in_err-claim : goal.returns-in_err-claim
+returns-in_err-claim g c =
     let m = g.M.Measure in
     let s = g.S.Store in
     let was = c.args.self.now in
-    let p = err_from_is_err_and c.from-residual.result c.from-residual.ensures.1 in
-    let x = c.in-err-claim.field-0.0 in
+    let p = err_from_is_err_and c.from_residual.result c.from_residual.ensures.1 in
+    let x = c.in_err-claim.field-0.0 in
     subst (λ r. Continues s.room s.pairs m.nil m.joined m.weight was (LookUp c.args.line.now) (finding_answer r) was) (sym (p.1 ∙ ap Err p.2))
     (continues s.room s.pairs s.unique m.laws m.weight was was (LookUp c.args.line.now) (finding_answer (Err x))
-    (look-step m.nil m.joined m.weight (book_in s.room s.pairs was) was.register.total c.args.line.now (Err x) (Err x) c.in-err-claim.ensures refl))
+    (look_step m.nil m.joined m.weight (book_in s.room s.pairs was) was.register.total c.args.line.now (Err x) (Err x) c.in_err-claim.ensures refl))
 
 pub returns : goal.returns
 returns g c =
@@ -24,4 +24,4 @@ returns g c =
     let s = g.S.Store in
     let was = c.args.self.now in
     continues s.room s.pairs s.unique m.laws m.weight was was (LookUp c.args.line.now) (finding_answer (Ok c.find.result))
-    (look-step m.nil m.joined m.weight (book_in s.room s.pairs was) was.register.total c.args.line.now (Ok c.in-ok-claim.claim) (Ok c.find.result) c.in-ok-claim.ensures c.find.ensures)
+    (look_step m.nil m.joined m.weight (book_in s.room s.pairs was) was.register.total c.args.line.now (Ok c.in_ok-claim.claim) (Ok c.find.result) c.in_ok-claim.ensures c.find.ensures)

@@ -6,7 +6,7 @@ use Rattle.calls.specs.Follows.{Follows}
 use Rattle.calls.specs.Held.{book_in, total_in}
 use Rattle.calls.specs.Said.{naming_answer}
 use Rattle.calls.proofs.Checkers.{continues}
-use Rattle.calls.proofs.Moves.{naming-step}
+use Rattle.calls.proofs.Moves.{naming_step}
 use Rattle.calls.proofs.checker.Checker.name_file.Goals as goal
 
 pub returns : goal.returns
@@ -19,7 +19,7 @@ returns g c =
       number = c.name.ensures.number;
       follows = λ had.
           continues s.room s.pairs s.unique m.laws m.weight was (record { register = was.register; entities = was.entities; contracts = was.contracts; files = c.name.new.self }) (NameFile c.args.name.now) (naming_answer c.name.result)
-          (naming-step m.nil m.joined m.weight (book_in s.room s.pairs was) was.register.total c.args.name.now c.name.result (files_of c.name.new.self) had c.name.ensures.told c.name.ensures.list);
+          (naming_step m.nil m.joined m.weight (book_in s.room s.pairs was) was.register.total c.args.name.now c.name.result (files_of c.name.new.self) had c.name.ensures.told c.name.ensures.list);
       memory = λ none capacity past f.
           subst (λ fs. Follows m.nil m.joined m.weight capacity past (with_files (book_in s.room s.pairs was) fs) was.register.total)
           (sym (c.name.ensures.list ∙ ap (λ b. cond b (named_in files c.args.name.now) files) none)) f;

@@ -7,8 +7,8 @@ use Rattle.calls.specs.declared.checker.Checker.{Checker}
 use Rattle.calls.specs.Follows.{Follows}
 use Rattle.calls.specs.Held.{book_in, total_in}
 use Rattle.calls.specs.Said.{naming_answer}
-use Rattle.calls.proofs.Checkers.{continues, named-so}
-use Rattle.calls.proofs.Moves.{naming-step}
+use Rattle.calls.proofs.Checkers.{continues, named_so}
+use Rattle.calls.proofs.Moves.{naming_step}
 use Rattle.calls.proofs.checker.Checker.name_next.Goals as goal
 
 pub returns : goal.returns
@@ -16,12 +16,12 @@ returns g c =
     let m = g.M.Measure in
     let s = g.S.Store in
     let was = c.args.self.now in
-    let named = c.name-next in
+    let named = c.name_next in
     let files = files_of was.files in
     let is : Checker g.row.S.Denot g.row.M.Denot = record { register = was.register; entities = was.entities; contracts = was.contracts; files = named.new.self } in
-    let so = named-so s.room s.pairs s.unique m.laws m.weight was is (NameFile c.args.name.now) (had_memory named.result) (naming_answer named.result) c.of-naming.result c.of-naming.ensures
+    let so = named_so s.room s.pairs s.unique m.laws m.weight was is (NameFile c.args.name.now) (had_memory named.result) (naming_answer named.result) c.of_naming.result c.of_naming.ensures
     (λ had. continues s.room s.pairs s.unique m.laws m.weight was is (NameFile c.args.name.now) (naming_answer named.result)
-    (naming-step m.nil m.joined m.weight (book_in s.room s.pairs was) was.register.total c.args.name.now named.result (files_of named.new.self) had named.ensures.told named.ensures.list))
+    (naming_step m.nil m.joined m.weight (book_in s.room s.pairs was) was.register.total c.args.name.now named.result (files_of named.new.self) had named.ensures.told named.ensures.list))
     (λ none capacity past f. subst (λ fs. Follows m.nil m.joined m.weight capacity past (with_files (book_in s.room s.pairs was) fs) was.register.total)
     (sym (named.ensures.list ∙ ap (λ b. cond b (named_in files c.args.name.now) files) none)) f) in
     record { follows = so.0; memory = so.1 }

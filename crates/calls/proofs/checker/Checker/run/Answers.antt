@@ -14,7 +14,7 @@ loop-call-preserved g c = λ capacity f.
     let cs = c.args.calls.now in
     let i = c.loop-call.call-index in
     subst (λ calls. HasRun s.room s.pairs m.nil m.joined m.weight capacity calls c.step.new.self) (said_more cs i _ c.loop-call-test.true)
-    (c.in-ok-step.ensures capacity (calls_said (take i cs)) (c.loop-call.invariant capacity f))
+    (c.in_ok-step.ensures capacity (calls_said (take i cs)) (c.loop-call.invariant capacity f))
 
 pub returns : goal.returns
 returns g c =
@@ -22,4 +22,4 @@ returns g c =
     let s = g.S.Store in
     let capacity = s.room c.args.store.now in
     subst (λ calls. HasRun s.room s.pairs m.nil m.joined m.weight capacity calls c.loop-call.run) (said_all c.args.calls.now c.loop-call.call-index c.loop-call-test.false)
-    (c.loop-call.invariant capacity c.in-ok-run.ensures)
+    (c.loop-call.invariant capacity c.in_ok-run.ensures)

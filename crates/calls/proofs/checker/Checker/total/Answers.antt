@@ -2,7 +2,7 @@ use Rattle.std.proofs.Common.{◌∙◌}
 use Rattle.book.specs.Book.{Total, Accepted}
 use Rattle.calls.specs.Held.{book_in, total_in}
 use Rattle.calls.proofs.Checkers.{continues}
-use Rattle.calls.proofs.Moves.{total-step}
+use Rattle.calls.proofs.Moves.{total_step}
 use Rattle.calls.proofs.checker.Checker.total.Goals as goal
 
 pub returns : goal.returns
@@ -12,5 +12,5 @@ returns g c =
     let was = c.args.self.now in
     record {
       told = λ capacity past f. c.total.ensures ∙ f.sums;
-      follows = continues s.room s.pairs s.unique m.laws m.weight was was Total Accepted (total-step m.nil m.joined m.weight (book_in s.room s.pairs was) was.register.total);
+      follows = continues s.room s.pairs s.unique m.laws m.weight was was Total Accepted (total_step m.nil m.joined m.weight (book_in s.room s.pairs was) was.register.total);
     }

@@ -3,7 +3,7 @@ use Rattle.book.specs.Book.{Withdraw}
 use Rattle.calls.specs.Held.{book_in, total_in}
 use Rattle.calls.specs.Said.{ending_answer}
 use Rattle.calls.proofs.Checkers.{continues}
-use Rattle.calls.proofs.Moves.{withdraw-step}
+use Rattle.calls.proofs.Moves.{withdraw_step}
 use Rattle.calls.proofs.checker.Checker.withdraw.Goals as goal
 
 pub returns : goal.returns
@@ -12,4 +12,4 @@ returns g c =
     let s = g.S.Store in
     let was = c.args.self.now in
     continues s.room s.pairs s.unique m.laws m.weight was (record { register = was.register; entities = was.entities; contracts = was.contracts; files = c.withdraw.new.self }) (Withdraw c.args.file.number) (ending_answer c.withdraw.result)
-    (withdraw-step m.nil m.joined m.weight (book_in s.room s.pairs was) was.register.total c.args.file.number c.withdraw.result (files_of c.withdraw.new.self) c.withdraw.ensures.told c.withdraw.ensures.counts c.withdraw.ensures.list)
+    (withdraw_step m.nil m.joined m.weight (book_in s.room s.pairs was) was.register.total c.args.file.number c.withdraw.result (files_of c.withdraw.new.self) c.withdraw.ensures.told c.withdraw.ensures.counts c.withdraw.ensures.list)

@@ -3,7 +3,7 @@ use Rattle.book.specs.Book.{Withdraw}
 use Rattle.calls.specs.Held.{book_in, total_in}
 use Rattle.calls.specs.Said.{ending_answer}
 use Rattle.calls.proofs.Checkers.{continues}
-use Rattle.calls.proofs.Moves.{withdraw-step}
+use Rattle.calls.proofs.Moves.{withdraw_step}
 use Rattle.calls.proofs.checker.Checker.withdraw_at.Goals as goal
 
 pub returns : goal.returns
@@ -11,6 +11,6 @@ returns g c =
     let m = g.M.Measure in
     let s = g.S.Store in
     let was = c.args.self.now in
-    let call = c.withdraw-at in
+    let call = c.withdraw_at in
     continues s.room s.pairs s.unique m.laws m.weight was (record { register = was.register; entities = was.entities; contracts = was.contracts; files = call.new.self }) (Withdraw c.args.number) (ending_answer call.result)
-    (withdraw-step m.nil m.joined m.weight (book_in s.room s.pairs was) was.register.total c.args.number call.result (files_of call.new.self) call.ensures.told call.ensures.counts call.ensures.list)
+    (withdraw_step m.nil m.joined m.weight (book_in s.room s.pairs was) was.register.total c.args.number call.result (files_of call.new.self) call.ensures.told call.ensures.counts call.ensures.list)

@@ -5,42 +5,42 @@ use Rattle.life.proofs.Lookups.{look_put}
 use Rattle.chained.specs.Table.{pairs_of, room_of, Sound}
 use Rattle.chained.proofs.Facts.{opened, held, whole, sound_in, sound_with, room_small, room_to, lookup_none, pairs_length}
 use Rattle.chained.proofs.Chains.{lookup_some}
-use Rattle.chained.proofs.Moves.{held-sound, held-becomes}
+use Rattle.chained.proofs.Moves.{held_sound, held_becomes}
 use Rattle.chained.proofs.table.Table.put.Goals as goal
 
-pub set-pair-requires : goal.set-pair-requires
-set-pair-requires c =
-    let o = c.place-of-i.ensures in
+pub set_pair-requires : goal.set_pair-requires
+set_pair-requires c =
+    let o = c.place_of-i.ensures in
     let t = c.if-i-gt0.true in
     let h = sound_in _ _ (opened c.requires) (omega (arith, o.within)) in
     omega (arith, h.fits, o.within)
 
 pub returns-then-i-gt0 : goal.returns-then-i-gt0
 returns-then-i-gt0 c =
-    let o = c.place-of-i.ensures in
+    let o = c.place_of-i.ensures in
     let t = c.if-i-gt0.true in
     let h = sound_in _ _ (opened c.requires) (omega (arith, o.within)) in
     record {
-      held = held (whole _ _ (held-sound _ _ _ _ _ _ h t o.within (o.held t) c.set-pair.ensures));
-      room = room_to _ _ c.set-pair.ensures.size;
+      held = held (whole _ _ (held_sound _ _ _ _ _ _ h t o.within (o.held t) c.set_pair.ensures));
+      room = room_to _ _ c.set_pair.ensures.size;
       fits = sym (or_left _ _ (ap is_some (lookup_some _ _ _ _ h.apart t o.within (o.held t))));
-      holds = λ q. held-becomes _ _ _ _ _ _ h t o.within (o.held t) c.set-pair.ensures q ∙ sym (look_put q _ _ _);
+      holds = λ q. held_becomes _ _ _ _ _ _ h t o.within (o.held t) c.set_pair.ensures q ∙ sym (look_put q _ _ _);
       leaves = record {
-        size = c.set-pair.ensures.size;
+        size = c.set_pair.ensures.size;
         spare = record {
-          keys = λ m f. c.set-pair.ensures.key_else m (λ e. omega (arith, f (omega arith), o.within));
-          lives = λ m f. c.set-pair.ensures.life_else m (λ e. omega (arith, f (omega arith), o.within));
+          keys = λ m f. c.set_pair.ensures.key_else m (λ e. omega (arith, f (omega arith), o.within));
+          lives = λ m f. c.set_pair.ensures.life_else m (λ e. omega (arith, f (omega arith), o.within));
         };
         unwritten = λ e. absurd (true≢false e);
       };
     }
 
-pub returns-then-is-full : goal.returns-then-is-full
-returns-then-is-full c =
-    let o = c.place-of-i.ensures in
+pub returns-then-is_full : goal.returns-then-is_full
+returns-then-is_full c =
+    let o = c.place_of-i.ensures in
     let s = c.args.self.now.slots.now in
     let n = c.args.self.now.count in
-    let full : room_of s ≤ n = leb-true (room_of s) n (sym c.if-is-full.ensures) in
+    let full : room_of s ≤ n = leb-true (room_of s) n (sym c.if-is_full.ensures) in
     record {
       held = held (opened c.requires);
       room = refl;
@@ -53,15 +53,15 @@ pub add-requires : goal.add-requires
 add-requires c =
     let s = c.args.self.now.slots.now in
     let n = c.args.self.now.count in
-    let free : n < room_of s = leb-false (room_of s) n (sym c.if-is-full.ensures) in
+    let free : n < room_of s = leb-false (room_of s) n (sym c.if-is_full.ensures) in
     let h : Sound s n = sound_with s n (opened c.requires) free in
-    record { sound = h; room = omega (arith, room_small s h.small); fresh = c.place-of-i.ensures.missed (omega arith) }
+    record { sound = h; room = omega (arith, room_small s h.small); fresh = c.place_of-i.ensures.missed (omega arith) }
 
 pub returns : goal.returns
 returns c =
     let s = c.args.self.now.slots.now in
     let n = c.args.self.now.count in
-    let free : n < room_of s = leb-false (room_of s) n (sym c.if-is-full.ensures) in
+    let free : n < room_of s = leb-false (room_of s) n (sym c.if-is_full.ensures) in
     record {
       held = held (whole _ _ c.add.ensures.sound);
       room = room_to _ _ c.add.auto.slots;

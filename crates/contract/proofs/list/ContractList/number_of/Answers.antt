@@ -7,18 +7,18 @@ use Rattle.contract.specs.Held.{contracts_of}
 use Rattle.contract.proofs.Tables.{owes}
 use Rattle.contract.proofs.list.ContractList.number_of.Goals as goal
 
-pub returns-then-wants-name : goal.returns-then-wants-name
-returns-then-wants-name c =
-    let all = c.if-not-has-all.ensures ∙ ap (λ ts. every (among (texts_of ts)) (listing c.args.report.now.names)) c.as-slice.ensures in
+pub returns-then-wants_name : goal.returns-then-wants_name
+returns-then-wants_name c =
+    let all = c.if-not-has_all.ensures ∙ ap (λ ts. every (among (texts_of ts)) (listing c.args.report.now.names)) c.as_slice.ensures in
     record {
-      told = owes (contracts_of c.args.self.now) (said c.args.report.now) _ _ _ _ c.if-same-bytes.ensures c.in-Some.ensures.told all c.if-wants-name.ensures;
+      told = owes (contracts_of c.args.self.now) (said c.args.report.now) _ _ _ _ c.if-same_bytes.ensures c.in-Some.ensures.told all c.if-wants_name.ensures;
       small = tt;
     }
 
 pub returns : goal.returns
 returns c =
-    let all = c.if-not-has-all.ensures ∙ ap (λ ts. every (among (texts_of ts)) (listing c.args.report.now.names)) c.as-slice.ensures in
+    let all = c.if-not-has_all.ensures ∙ ap (λ ts. every (among (texts_of ts)) (listing c.args.report.now.names)) c.as_slice.ensures in
     record {
-      told = owes (contracts_of c.args.self.now) (said c.args.report.now) _ _ _ _ c.if-same-bytes.ensures c.in-Some.ensures.told all c.if-wants-name.ensures;
+      told = owes (contracts_of c.args.self.now) (said c.args.report.now) _ _ _ _ c.if-same_bytes.ensures c.in-Some.ensures.told all c.if-wants_name.ensures;
       small = c.in-Some.ensures.small;
     }

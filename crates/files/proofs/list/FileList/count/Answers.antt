@@ -4,4 +4,4 @@ use Rattle.files.specs.Held.{as_file}
 use Rattle.files.proofs.list.FileList.count.Goals as goal
 
 pub returns : goal.returns
-returns c = ap length c.as-slice.ensures.value ∙ sym (length-map c.args.self.now.files.items as_file)
+returns c = ap length c.as_slice.ensures.value ∙ sym (length-map c.args.self.now.files.items as_file)

@@ -7,8 +7,8 @@ use Rattle.filing.specs.Known.{known}
 use Rattle.filing.proofs.Adding.{says_itself, fitting, leaves}
 use Rattle.filing.proofs.entity_list.EntityList.add.Goals as goal
 
-pub returns-then-len-ge-MOST-ENTITIES : goal.returns-then-len-ge-MOST-ENTITIES
-returns-then-len-ge-MOST-ENTITIES c =
+pub returns-then-len-ge-MOST_ENTITIES : goal.returns-then-len-ge-MOST_ENTITIES
+returns-then-len-ge-MOST_ENTITIES c =
     let es = known c.args.self.now in
     let l = length-map c.args.self.now.codes.items text_of in
     let full : leb 32 (length es) ≡ true = grind (arith, nat_tests) in
@@ -25,6 +25,6 @@ returns c =
     record {
       told = fitting es c.args.code.now _ _ _ c.in-Some.ensures c.if-knows.ensures room;
       list =
-          texts_push c.args.self.now.codes.items _ c.in-Some.text c.args.code.now c.push-reserved.ensures.items (says_itself c.args.code.now _ c.in-Some.ensures)
+          texts_push c.args.self.now.codes.items _ c.in-Some.text c.args.code.now c.push_reserved.ensures.items (says_itself c.args.code.now _ c.in-Some.ensures)
           ∙ leaves es c.args.code.now _ _ _ c.in-Some.ensures c.if-knows.ensures room;
     }

@@ -8,4 +8,4 @@ pub returns : goal.returns
 returns c =
     let key = c.args.key.now in
     c.raise.ensures
-    ∙ ap (added c.args.self.now) (ap (one_cell key.contract) c.signed-quantity-value.ensures ∙ sym (weight_is (key_parts key) (life_parts c.args.life.now)))
+    ∙ ap (added c.args.self.now) (ap (one_cell key.contract) c.signed_quantity-value.ensures ∙ sym (weight_is (key_parts key) (life_parts c.args.life.now)))

@@ -7,9 +7,9 @@ use Rattle.measure.proofs.positions.SheetMeasure.take.Goals as goal
 pub returns : goal.returns
 returns c =
     let key = c.args.key.now in
-    let v = c.signed-quantity-value in
-    let w = c.wrapping-neg in
+    let v = c.signed_quantity-value in
+    let w = c.wrapping_neg in
     c.raise.ensures
     ∙ ap (added c.args.self.now)
-    (one_negated key.contract v.result w.result v.type-inv w.type-inv w.ensures
+    (one_negated key.contract v.result w.result v.type_inv w.type_inv w.ensures
     ∙ ap negated (ap (one_cell key.contract) v.ensures ∙ sym (weight_is (key_parts key) (life_parts c.args.life.now))))

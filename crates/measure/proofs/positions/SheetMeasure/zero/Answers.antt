@@ -2,8 +2,8 @@ use Rattle.std.proofs.Common.{refl}
 use Rattle.measure.proofs.Cells.{sheet_is, zeros_at, zeros_fit}
 use Rattle.measure.proofs.positions.SheetMeasure.zero.Goals as goal
 
-pub invariant-of-result : goal.invariant-of-result
-invariant-of-result c = (refl, (zeros_fit, tt))
+pub invariant_of-result : goal.invariant_of-result
+invariant_of-result c = (refl, (zeros_fit, tt))
 
 pub returns : goal.returns
 returns c = sheet_is _ _ (λ n h. zeros_at n h)

@@ -9,9 +9,9 @@ pub returns-then-at-lt-CELLS : goal.returns-then-at-lt-CELLS
 returns-then-at-lt-CELLS c =
     let s = c.args.self.now in
     let n = c.args.contract in
-    let r = c.cast-signed.result in
+    let r = c.cast_signed.result in
     let fits : SFits w64 r = search rules in
-    let shows : to_z w64 (of_z w64 r) ≡ position_of s n = to_z-of_z w64 r fits ∙ c.cast-signed.ensures in
+    let shows : to_z w64 (of_z w64 r) ≡ position_of s n = to_z-of_z w64 r fits ∙ c.cast_signed.ensures in
     record { shown = shows; exact = λ ps few w e. shows ∙ exact n ps few w s e; kept = λ ps few e. shows ∙ exact_plain n ps few s e }
 
 pub returns-else-at-lt-CELLS : goal.returns-else-at-lt-CELLS

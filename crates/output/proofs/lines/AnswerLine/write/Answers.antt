@@ -11,9 +11,9 @@ pub returns-in-Refused : goal.returns-in-Refused
 returns-in-Refused c =
     let i = c.in-Refused in
     let out = c.args.out.now in
-    let result = c.write-parts-in-Refused.result in
-    let after = c.write-parts-in-Refused.new.out in
-    let all : c.put-refused-n.result - 0 ≡ c.put-refused-n.result = omega arith in
-    let front = ap (λ k. take k c.put-refused-n.new.line) all ∙ c.put-refused-n.ensures.put.front in
-    let text = (λ j. front j ++ (c.shown-code.ensures j ++ codes "\n")) ∙ parts i.number i.field (code_text i.code) ∙ ap line_text (sym i.is) in
-    subst (λ t. Wrote out t result after) text c.write-parts-in-Refused.ensures
+    let result = c.write_parts-in-Refused.result in
+    let after = c.write_parts-in-Refused.new.out in
+    let all : c.put_refused-n.result - 0 ≡ c.put_refused-n.result = omega arith in
+    let front = ap (λ k. take k c.put_refused-n.new.line) all ∙ c.put_refused-n.ensures.put.front in
+    let text = (λ j. front j ++ (c.shown_code.ensures j ++ codes "\n")) ∙ parts i.number i.field (code_text i.code) ∙ ap line_text (sym i.is) in
+    subst (λ t. Wrote out t result after) text c.write_parts-in-Refused.ensures

@@ -3,7 +3,7 @@ use Rattle.life.specs.Lives.{plain, Same, altered}
 use Rattle.life.specs.Pairs as pairs
 use Rattle.life.specs.Parts.{LifeParts, key_parts, life_parts}
 use Rattle.life.proofs.Lives.{unique_altered}
-use Rattle.life.proofs.Plain.{plain_unique, plain-altered}
+use Rattle.life.proofs.Plain.{plain_unique, plain_altered}
 use Rattle.register.proofs.Changes.{found_is, held_fits, total_held}
 use Rattle.register.proofs.held.Register.alter.Goals as goal
 
@@ -22,7 +22,7 @@ returns g c =
     let fits = held_fits (s.room c.args.self.now.store.now) key old xs (is_ok c.put.result) c.requires c.put.ensures.fits in
     let put : pairs.Same xs' ((key, new) ∷ pairs.erase key xs) = subst (λ b. pairs.Same xs' (pairs.added b key new xs)) fits c.put.ensures.holds in
     let alters : (f : LifeParts → LifeParts) → f (life_parts old) ≡ life_parts new → Same (plain xs') (altered k f (plain xs)) =
-    λ f is. plain-altered key xs xs' (plain xs) (λ j. refl) (life_parts old) f new found is put in
+    λ f is. plain_altered key xs xs' (plain xs) (λ j. refl) (life_parts old) f new found is put in
     let f : LifeParts → LifeParts = λ l. life_parts new in
     record {
       holds = alters;

@@ -2,7 +2,7 @@ use Rattle.std.proofs.Common.{◌≡◌, true, false, cond, [], ◌∷◌, Some,
 use Rattle.life.specs.Lives.{plain, look, Same}
 use Rattle.life.specs.Parts.{key_parts, life_parts}
 use Rattle.life.proofs.Lives.{unique_from}
-use Rattle.life.proofs.Plain.{plain_unique, plain_same, plain-entered}
+use Rattle.life.proofs.Plain.{plain_unique, plain_same, plain_entered}
 use Rattle.register.proofs.Changes.{found_is, full_unless, total_held}
 use Rattle.register.proofs.held.Register.enter.Goals as goal
 
@@ -16,7 +16,7 @@ returns-in-Ok g c =
     let xs' = s.pairs c.put.new.self in
     let more = (key_parts key, life_parts life) ∷ plain xs in
     let room = full_unless (s.room c.args.self.now.store.now) key xs true c.requires c.in-Ok.ensures.fits in
-    let entered : Same (plain xs') more = plain-entered key xs xs' (plain xs) (λ j. refl) life c.in-Ok.ensures.holds in
+    let entered : Same (plain xs') more = plain_entered key xs xs' (plain xs) (λ j. refl) life c.in-Ok.ensures.holds in
     let new = found_is key xs None (sym c.requires) in
     let u = unique_from (key_parts key, life_parts life) (plain xs) new (plain_unique xs (s.unique c.args.self.now.store.now)) in
     record {
