@@ -4,19 +4,22 @@ use mathlib.Core.HLevel.{is_prop→PathP, ×₃_prop}
 use native.Mathlib.Bridge.{le_prop}
 use base.Stored.{Coded-set, coded_ℕ, coded_list}
 use Rattle.std.proofs.lemmas.List.{take-append-drop, drop-set-lt, drop-replicate, length-take-le, drop-drop}
-use Rattle.std.specs.Cmp.Lexicographic.{Lex}
-use Rattle.std.specs.Ordering.{MatchOrdering}
+use Rattle.std.specs.Cmp.Lexicographic.{slice_cmp}
+use Rattle.std.specs.Ordering.{nat_cmp, ordering_then}
 use Rattle.std.specs.Str.{bytes_eq}
 use Rattle.std.proofs.lemmas.Slice.Eq.{bytes_eq-Decides}
 use Rattle.std.proofs.lemmas.Bool.Decides.{nat_tests, same_from_decides, Decides-like}
 use Rattle.text.specs.declared.bounded.Text.{Text}
-use Rattle.text.specs.Texts.{text_of, order}
+use Rattle.text.specs.Texts.{text_of, number_order, order}
 
-pub lex_order : (xs ys : List ℕ) (r : Ordering) → Lex (λ a b k. MatchOrdering k (a < b) (a ≡ b) (b < a)) xs ys r → r ≡ order xs ys
-lex_order [] [] r h = h
-lex_order [] (y ∷ ys) r h = h
-lex_order (x ∷ xs) [] r h = h
-lex_order (x ∷ xs) (y ∷ ys) r h = let more = lex_order xs ys r in grind (arith, nat_tests)
+number_cmp : (x y : ℕ) → nat_cmp x y ≡ number_order x y
+number_cmp x y = grind (arith, nat_tests)
+
+pub lex_order : (xs ys : List ℕ) → slice_cmp nat_cmp xs ys ≡ order xs ys
+lex_order [] [] = refl
+lex_order [] (y ∷ ys) = refl
+lex_order (x ∷ xs) [] = refl
+lex_order (x ∷ xs) (y ∷ ys) = λ i. ordering_then (number_cmp x y i) (lex_order xs ys i)
 
 -- one byte written before the zeros
 pub zeros_more : (n : ℕ) (xs : List ℕ) (i x : ℕ) → i < length xs → drop i xs ≡ replicate (n - i) 0 → drop (i + 1) (set xs i x) ≡ replicate (n - i - 1) 0
