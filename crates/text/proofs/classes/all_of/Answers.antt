@@ -1,4 +1,4 @@
-use Rattle.std.proofs.Common.{◌≡◌, ◌&&◌, sym, ap, ◌∙◌}
+use Rattle.std.proofs.Common.{◌&&◌, sym, ◌∙◌}
 use Rattle.text.proofs.Tests.{every_more, every_all}
 use Rattle.text.proofs.classes.all_of.Goals as goal
 

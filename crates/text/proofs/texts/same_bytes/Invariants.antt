@@ -1,4 +1,4 @@
-use Rattle.std.proofs.Common.{◌≡◌, true, false, length, take}
+use Rattle.std.proofs.Common.{◌≡◌, true, length, take}
 use Rattle.text.proofs.texts.same_bytes.Given as goal
 
 abbrev pub invariant-loop-i : goal.invariant-loop-i

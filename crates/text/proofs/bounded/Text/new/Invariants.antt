@@ -1,4 +1,4 @@
-use Rattle.std.proofs.Common.{◌≡◌, ◌-◌, ◌≤◌, length, take, drop, replicate}
+use Rattle.std.proofs.Common.{◌≡◌, ◌-◌, length, take, drop, replicate}
 use Rattle.text.proofs.bounded.Text.new.Given as goal
 
 abbrev pub invariant-loop-i : goal.invariant-loop-i
