@@ -1,5 +1,5 @@
 -- The list of reporting entities: ACER codes, in the order of adding.
-use Rattle.std.specs.Prelude.{ℕ, Bool, cond, not, List, [], ◌∷◌, ◌++◌, length, is_some, nat_le}
+use Rattle.std.specs.Prelude.{ℕ, cond, not, List, [], ◌∷◌, ◌++◌, length, is_some, nat_le}
 use Rattle.text.specs.Bytes.{Bytes, among, has_form}
 use Rattle.text.specs.Forms.{code_form}
 use Rattle.text.specs.Rows.{Row, row, first_fit}

@@ -1,5 +1,5 @@
 -- Files: first named, then identified, then ended by closing, or by withdrawing where they were only named.
-use Rattle.std.specs.Prelude.{ℕ, suc, Bool, true, false, cond, not, ◌&&◌, ◌||◌, List, [], ◌∷◌, nat_le}
+use Rattle.std.specs.Prelude.{ℕ, suc, Bool, true, false, not, ◌||◌, List, [], ◌∷◌, nat_le}
 use Rattle.std.specs.Str.{bytes_eq}
 use Rattle.text.specs.Bytes.{Bytes, among}
 use Rattle.text.specs.Rows.{Row, row}

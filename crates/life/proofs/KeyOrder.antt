@@ -5,7 +5,7 @@ use native.Mathlib.Bridge.{le_prop}
 use native.Mathlib.Nat.{ℕ_set}
 use Rattle.std.specs.Ordering.{is_lt, ordering_then, ordering_reverse}
 use Rattle.std.specs.Cmp.{IsTotalOrder, nat_cmp_total}
-use Rattle.std.specs.Cmp.Lexicographic.{slice_cmp, lexical as total, lists_total}
+use Rattle.std.specs.Cmp.Lexicographic.{slice_cmp, lists_total}
 use Rattle.std.specs.Str.{bytes_eq}
 use Rattle.std.proofs.lemmas.Slice.Eq.{bytes_eq-Decides}
 use Rattle.std.proofs.lemmas.Bool.{and_from, and_parts, eqb-true, eq-eqb, cases_Bool}
@@ -63,7 +63,7 @@ parts_from_list a b p = λ i. record {
 }
 
 -- the library's order of lists is this one
-as_lex : {X : Type 0} {R : X → X → Ordering → Type 0} (o : IsTotalOrder R) (f : X → X → Ordering) → ((x y : X) → f x y ≡ R x y)
+as_lex : {X : Type 0} {R : X → X → Ordering} (o : IsTotalOrder R) (f : X → X → Ordering) → ((x y : X) → f x y ≡ R x y)
     → (xs ys : List X) → lexical f xs ys ≡ slice_cmp R xs ys
 as_lex o f h [] [] = refl
 as_lex o f h [] (y ∷ ys) = refl

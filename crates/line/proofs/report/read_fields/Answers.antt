@@ -12,7 +12,7 @@ use Rattle.line.specs.Reads.{seen, bytes_of, number_of, signed_of, names_of, as_
 use Rattle.line.proofs.Stages.{Reached, Says, begun, onward, stopped}
 use Rattle.line.proofs.Reports.{stops, time_small, read_value, word_bytes, price_signed}
 use Rattle.line.proofs.report.read_fields.Goals as goal
-use Rattle.line.proofs.report.read_fields.Goals.{After-new-reader, In-ok-kind, In-ok-id, In-ok-contract, In-ok-venue, In-ok-participant, In-ok-side, In-ok-action, In-ok-time, In-ok-quantity, In-ok-price, In-ok-names}
+use Rattle.line.proofs.report.read_fields.Goals.{After-new-reader, In_ok-kind, In_ok-id, In_ok-contract, In_ok-venue, In_ok-participant, In_ok-side, In_ok-action, In_ok-time, In_ok-quantity, In_ok-price, In_ok-names}
 
 abbrev At : Bytes → ℕ → Place → Bytes → Type 0
 At bs k p line = Reached bs field_rows (report (fields bs)) p line k (drop k field_rows)
@@ -20,92 +20,92 @@ At bs k p line = Reached bs field_rows (report (fields bs)) p line k (drop k fie
 at_kind : (c : goal.After-new-reader) → At c.args.line.now 0 c.new-reader.result.place c.new-reader.result.line.now
 at_kind c = begun _ _ _ _ _ c.new-reader.ensures.place c.new-reader.ensures.line
 
-past_kind : (c : goal.In-ok-kind) → At c.args.line.now 1 c.value.new.self.place c.value.new.self.line.now × Says as_read kind_form 0 c.args.line.now c.in_ok-kind.kind
+past_kind : (c : goal.In_ok-kind) → At c.args.line.now 1 c.value.new.self.place c.value.new.self.line.now × Says as_read kind_form 0 c.args.line.now c.in_ok-kind.kind
 past_kind c =
     let p = c.in_ok-kind.ensures in
-    onward as_read kind_form 0 (omega arith) (omega (arith, c.requires)) (at_kind (goal.at.In-ok-kind c).After-new-reader) p.told p.place p.line
+    onward as_read kind_form 0 (omega arith) (omega (arith, c.requires)) (at_kind (goal.at.In_ok-kind c).After-new-reader) p.told p.place p.line
 
-at_id : (c : goal.In-ok-kind) → At c.args.line.now 1 c.value.new.self.place c.value.new.self.line.now
+at_id : (c : goal.In_ok-kind) → At c.args.line.now 1 c.value.new.self.place c.value.new.self.line.now
 at_id c = (past_kind c).0
 
-past_id : (c : goal.In-ok-id) → At c.args.line.now 2 c.id.new.self.place c.id.new.self.line.now × Says as_word (id_form 1 52) 1 c.args.line.now (seen c.in_ok-id.id)
+past_id : (c : goal.In_ok-id) → At c.args.line.now 2 c.id.new.self.place c.id.new.self.line.now × Says as_word (id_form 1 52) 1 c.args.line.now (seen c.in_ok-id.id)
 past_id c =
     let p = c.in_ok-id.ensures in
-    onward as_word (id_form 1 52) 1 (omega arith) (omega (arith, c.requires)) (at_id (goal.at.In-ok-id c).In-ok-kind) p.told p.place p.line
+    onward as_word (id_form 1 52) 1 (omega arith) (omega (arith, c.requires)) (at_id (goal.at.In_ok-id c).In_ok-kind) p.told p.place p.line
 
-at_contract : (c : goal.In-ok-id) → At c.args.line.now 2 c.id.new.self.place c.id.new.self.line.now
+at_contract : (c : goal.In_ok-id) → At c.args.line.now 2 c.id.new.self.place c.id.new.self.line.now
 at_contract c = (past_id c).0
 
-past_contract : (c : goal.In-ok-contract) → At c.args.line.now 3 c.id-2.new.self.place c.id-2.new.self.line.now × Says as_word (id_form 0 32) 2 c.args.line.now (seen c.in_ok-contract.contract)
+past_contract : (c : goal.In_ok-contract) → At c.args.line.now 3 c.id-2.new.self.place c.id-2.new.self.line.now × Says as_word (id_form 0 32) 2 c.args.line.now (seen c.in_ok-contract.contract)
 past_contract c =
     let p = c.in_ok-contract.ensures in
-    onward as_word (id_form 0 32) 2 (omega arith) (omega (arith, c.requires)) (at_contract (goal.at.In-ok-contract c).In-ok-id) p.told p.place p.line
+    onward as_word (id_form 0 32) 2 (omega arith) (omega (arith, c.requires)) (at_contract (goal.at.In_ok-contract c).In_ok-id) p.told p.place p.line
 
-at_venue : (c : goal.In-ok-contract) → At c.args.line.now 3 c.id-2.new.self.place c.id-2.new.self.line.now
+at_venue : (c : goal.In_ok-contract) → At c.args.line.now 3 c.id-2.new.self.place c.id-2.new.self.line.now
 at_venue c = (past_contract c).0
 
-past_venue : (c : goal.In-ok-venue) → At c.args.line.now 4 c.venue.new.self.place c.venue.new.self.line.now × Says as_word venue_form 3 c.args.line.now (seen c.in_ok-venue.venue)
+past_venue : (c : goal.In_ok-venue) → At c.args.line.now 4 c.venue.new.self.place c.venue.new.self.line.now × Says as_word venue_form 3 c.args.line.now (seen c.in_ok-venue.venue)
 past_venue c =
     let p = c.in_ok-venue.ensures in
-    onward as_word venue_form 3 (omega arith) (omega (arith, c.requires)) (at_venue (goal.at.In-ok-venue c).In-ok-contract) p.told p.place p.line
+    onward as_word venue_form 3 (omega arith) (omega (arith, c.requires)) (at_venue (goal.at.In_ok-venue c).In_ok-contract) p.told p.place p.line
 
-at_participant : (c : goal.In-ok-venue) → At c.args.line.now 4 c.venue.new.self.place c.venue.new.self.line.now
+at_participant : (c : goal.In_ok-venue) → At c.args.line.now 4 c.venue.new.self.place c.venue.new.self.line.now
 at_participant c = (past_venue c).0
 
-past_participant : (c : goal.In-ok-participant) → At c.args.line.now 5 c.code.new.self.place c.code.new.self.line.now × Says as_word code_form 4 c.args.line.now (seen c.in_ok-participant.participant)
+past_participant : (c : goal.In_ok-participant) → At c.args.line.now 5 c.code.new.self.place c.code.new.self.line.now × Says as_word code_form 4 c.args.line.now (seen c.in_ok-participant.participant)
 past_participant c =
     let p = c.in_ok-participant.ensures in
-    onward as_word code_form 4 (omega arith) (omega (arith, c.requires)) (at_participant (goal.at.In-ok-participant c).In-ok-venue) p.told p.place p.line
+    onward as_word code_form 4 (omega arith) (omega (arith, c.requires)) (at_participant (goal.at.In_ok-participant c).In_ok-venue) p.told p.place p.line
 
-at_side : (c : goal.In-ok-participant) → At c.args.line.now 5 c.code.new.self.place c.code.new.self.line.now
+at_side : (c : goal.In_ok-participant) → At c.args.line.now 5 c.code.new.self.place c.code.new.self.line.now
 at_side c = (past_participant c).0
 
-past_side : (c : goal.In-ok-side) → At c.args.line.now 6 c.value-2.new.self.place c.value-2.new.self.line.now × Says as_read side_form 5 c.args.line.now c.in_ok-side.side
+past_side : (c : goal.In_ok-side) → At c.args.line.now 6 c.value-2.new.self.place c.value-2.new.self.line.now × Says as_read side_form 5 c.args.line.now c.in_ok-side.side
 past_side c =
     let p = c.in_ok-side.ensures in
-    onward as_read side_form 5 (omega arith) (omega (arith, c.requires)) (at_side (goal.at.In-ok-side c).In-ok-participant) p.told p.place p.line
+    onward as_read side_form 5 (omega arith) (omega (arith, c.requires)) (at_side (goal.at.In_ok-side c).In_ok-participant) p.told p.place p.line
 
-at_action : (c : goal.In-ok-side) → At c.args.line.now 6 c.value-2.new.self.place c.value-2.new.self.line.now
+at_action : (c : goal.In_ok-side) → At c.args.line.now 6 c.value-2.new.self.place c.value-2.new.self.line.now
 at_action c = (past_side c).0
 
-past_action : (c : goal.In-ok-action) → At c.args.line.now 7 c.value-3.new.self.place c.value-3.new.self.line.now × Says as_read action_form 6 c.args.line.now c.in_ok-action.action
+past_action : (c : goal.In_ok-action) → At c.args.line.now 7 c.value-3.new.self.place c.value-3.new.self.line.now × Says as_read action_form 6 c.args.line.now c.in_ok-action.action
 past_action c =
     let p = c.in_ok-action.ensures in
-    onward as_read action_form 6 (omega arith) (omega (arith, c.requires)) (at_action (goal.at.In-ok-action c).In-ok-side) p.told p.place p.line
+    onward as_read action_form 6 (omega arith) (omega (arith, c.requires)) (at_action (goal.at.In_ok-action c).In_ok-side) p.told p.place p.line
 
-at_time : (c : goal.In-ok-action) → At c.args.line.now 7 c.value-3.new.self.place c.value-3.new.self.line.now
+at_time : (c : goal.In_ok-action) → At c.args.line.now 7 c.value-3.new.self.place c.value-3.new.self.line.now
 at_time c = (past_action c).0
 
-past_time : (c : goal.In-ok-time) → At c.args.line.now 8 c.time.new.self.place c.time.new.self.line.now × Says as_number time_form 7 c.args.line.now (seen c.in_ok-time.time)
+past_time : (c : goal.In_ok-time) → At c.args.line.now 8 c.time.new.self.place c.time.new.self.line.now × Says as_number time_form 7 c.args.line.now (seen c.in_ok-time.time)
 past_time c =
     let p = c.in_ok-time.ensures in
-    onward as_number time_form 7 (omega arith) (omega (arith, c.requires)) (at_time (goal.at.In-ok-time c).In-ok-action) p.told p.place p.line
+    onward as_number time_form 7 (omega arith) (omega (arith, c.requires)) (at_time (goal.at.In_ok-time c).In_ok-action) p.told p.place p.line
 
-at_quantity : (c : goal.In-ok-time) → At c.args.line.now 8 c.time.new.self.place c.time.new.self.line.now
+at_quantity : (c : goal.In_ok-time) → At c.args.line.now 8 c.time.new.self.place c.time.new.self.line.now
 at_quantity c = (past_time c).0
 
-past_quantity : (c : goal.In-ok-quantity) → At c.args.line.now 9 c.quantity.new.self.place c.quantity.new.self.line.now × Says as_number quantity_form 8 c.args.line.now (seen c.in_ok-quantity.quantity)
+past_quantity : (c : goal.In_ok-quantity) → At c.args.line.now 9 c.quantity.new.self.place c.quantity.new.self.line.now × Says as_number quantity_form 8 c.args.line.now (seen c.in_ok-quantity.quantity)
 past_quantity c =
     let p = c.in_ok-quantity.ensures in
-    onward as_number quantity_form 8 (omega arith) (omega (arith, c.requires)) (at_quantity (goal.at.In-ok-quantity c).In-ok-time) p.told p.place p.line
+    onward as_number quantity_form 8 (omega arith) (omega (arith, c.requires)) (at_quantity (goal.at.In_ok-quantity c).In_ok-time) p.told p.place p.line
 
-at_price : (c : goal.In-ok-quantity) → At c.args.line.now 9 c.quantity.new.self.place c.quantity.new.self.line.now
+at_price : (c : goal.In_ok-quantity) → At c.args.line.now 9 c.quantity.new.self.place c.quantity.new.self.line.now
 at_price c = (past_quantity c).0
 
-past_price : (c : goal.In-ok-price) → At c.args.line.now 10 c.price.new.self.place c.price.new.self.line.now × Says as_price price_form 9 c.args.line.now (seen c.in_ok-price.price)
+past_price : (c : goal.In_ok-price) → At c.args.line.now 10 c.price.new.self.place c.price.new.self.line.now × Says as_price price_form 9 c.args.line.now (seen c.in_ok-price.price)
 past_price c =
     let p = c.in_ok-price.ensures in
-    onward as_price price_form 9 (omega arith) (omega (arith, c.requires)) (at_price (goal.at.In-ok-price c).In-ok-quantity) p.told p.place p.line
+    onward as_price price_form 9 (omega arith) (omega (arith, c.requires)) (at_price (goal.at.In_ok-price c).In_ok-quantity) p.told p.place p.line
 
-at_names : (c : goal.In-ok-price) → At c.args.line.now 10 c.price.new.self.place c.price.new.self.line.now
+at_names : (c : goal.In_ok-price) → At c.args.line.now 10 c.price.new.self.place c.price.new.self.line.now
 at_names c = (past_price c).0
 
-past_names : (c : goal.In-ok-names) → At c.args.line.now 11 c.names.new.self.place c.names.new.self.line.now × Says as_names names_form 10 c.args.line.now (seen c.in_ok-names.names)
+past_names : (c : goal.In_ok-names) → At c.args.line.now 11 c.names.new.self.place c.names.new.self.line.now × Says as_names names_form 10 c.args.line.now (seen c.in_ok-names.names)
 past_names c =
     let p = c.in_ok-names.ensures in
-    onward as_names names_form 10 (omega arith) (omega (arith, c.requires)) (at_names (goal.at.In-ok-names c).In-ok-price) p.told p.place p.line
+    onward as_names names_form 10 (omega arith) (omega (arith, c.requires)) (at_names (goal.at.In_ok-names c).In_ok-price) p.told p.place p.line
 
-at_end : (c : goal.In-ok-names) → At c.args.line.now 11 c.names.new.self.place c.names.new.self.line.now
+at_end : (c : goal.In_ok-names) → At c.args.line.now 11 c.names.new.self.place c.names.new.self.line.now
 at_end c = (past_names c).0
 
 pub returns-in_err-kind : goal.returns-in_err-kind
@@ -114,63 +114,63 @@ returns-in_err-kind c =
 
 pub returns-in_err-id : goal.returns-in_err-id
 returns-in_err-id c =
-    stops 1 _ _ c.from_residual-in_err-id.ensures.1 (stopped as_word (id_form 1 52) 1 (omega arith) (omega (arith, c.requires)) (at_id (goal.at.returns-in_err-id c).In-ok-kind) c.in_err-id.ensures.told)
+    stops 1 _ _ c.from_residual-in_err-id.ensures.1 (stopped as_word (id_form 1 52) 1 (omega arith) (omega (arith, c.requires)) (at_id (goal.at.returns-in_err-id c).In_ok-kind) c.in_err-id.ensures.told)
 
 pub returns-in_err-contract : goal.returns-in_err-contract
 returns-in_err-contract c =
-    stops 2 _ _ c.from_residual-in_err-contract.ensures.1 (stopped as_word (id_form 0 32) 2 (omega arith) (omega (arith, c.requires)) (at_contract (goal.at.returns-in_err-contract c).In-ok-id) c.in_err-contract.ensures.told)
+    stops 2 _ _ c.from_residual-in_err-contract.ensures.1 (stopped as_word (id_form 0 32) 2 (omega arith) (omega (arith, c.requires)) (at_contract (goal.at.returns-in_err-contract c).In_ok-id) c.in_err-contract.ensures.told)
 
 pub returns-in_err-venue : goal.returns-in_err-venue
 returns-in_err-venue c =
-    stops 3 _ _ c.from_residual-in_err-venue.ensures.1 (stopped as_word venue_form 3 (omega arith) (omega (arith, c.requires)) (at_venue (goal.at.returns-in_err-venue c).In-ok-contract) c.in_err-venue.ensures.told)
+    stops 3 _ _ c.from_residual-in_err-venue.ensures.1 (stopped as_word venue_form 3 (omega arith) (omega (arith, c.requires)) (at_venue (goal.at.returns-in_err-venue c).In_ok-contract) c.in_err-venue.ensures.told)
 
 pub returns-in_err-participant : goal.returns-in_err-participant
 returns-in_err-participant c =
-    stops 4 _ _ c.from_residual-in_err-participant.ensures.1 (stopped as_word code_form 4 (omega arith) (omega (arith, c.requires)) (at_participant (goal.at.returns-in_err-participant c).In-ok-venue) c.in_err-participant.ensures.told)
+    stops 4 _ _ c.from_residual-in_err-participant.ensures.1 (stopped as_word code_form 4 (omega arith) (omega (arith, c.requires)) (at_participant (goal.at.returns-in_err-participant c).In_ok-venue) c.in_err-participant.ensures.told)
 
 pub returns-in_err-side : goal.returns-in_err-side
 returns-in_err-side c =
-    stops 5 _ _ c.from_residual-in_err-side.ensures.1 (stopped as_read side_form 5 (omega arith) (omega (arith, c.requires)) (at_side (goal.at.returns-in_err-side c).In-ok-participant) c.in_err-side.ensures.told)
+    stops 5 _ _ c.from_residual-in_err-side.ensures.1 (stopped as_read side_form 5 (omega arith) (omega (arith, c.requires)) (at_side (goal.at.returns-in_err-side c).In_ok-participant) c.in_err-side.ensures.told)
 
 pub returns-in_err-action : goal.returns-in_err-action
 returns-in_err-action c =
-    stops 6 _ _ c.from_residual-in_err-action.ensures.1 (stopped as_read action_form 6 (omega arith) (omega (arith, c.requires)) (at_action (goal.at.returns-in_err-action c).In-ok-side) c.in_err-action.ensures.told)
+    stops 6 _ _ c.from_residual-in_err-action.ensures.1 (stopped as_read action_form 6 (omega arith) (omega (arith, c.requires)) (at_action (goal.at.returns-in_err-action c).In_ok-side) c.in_err-action.ensures.told)
 
 pub returns-in_err-time : goal.returns-in_err-time
 returns-in_err-time c =
-    stops 7 _ _ c.from_residual-in_err-time.ensures.1 (stopped as_number time_form 7 (omega arith) (omega (arith, c.requires)) (at_time (goal.at.returns-in_err-time c).In-ok-action) c.in_err-time.ensures.told)
+    stops 7 _ _ c.from_residual-in_err-time.ensures.1 (stopped as_number time_form 7 (omega arith) (omega (arith, c.requires)) (at_time (goal.at.returns-in_err-time c).In_ok-action) c.in_err-time.ensures.told)
 
 pub returns-in_err-quantity : goal.returns-in_err-quantity
 returns-in_err-quantity c =
-    stops 8 _ _ c.from_residual-in_err-quantity.ensures.1 (stopped as_number quantity_form 8 (omega arith) (omega (arith, c.requires)) (at_quantity (goal.at.returns-in_err-quantity c).In-ok-time) c.in_err-quantity.ensures.told)
+    stops 8 _ _ c.from_residual-in_err-quantity.ensures.1 (stopped as_number quantity_form 8 (omega arith) (omega (arith, c.requires)) (at_quantity (goal.at.returns-in_err-quantity c).In_ok-time) c.in_err-quantity.ensures.told)
 
 pub returns-in_err-price : goal.returns-in_err-price
 returns-in_err-price c =
-    stops 9 _ _ c.from_residual-in_err-price.ensures.1 (stopped as_price price_form 9 (omega arith) (omega (arith, c.requires)) (at_price (goal.at.returns-in_err-price c).In-ok-quantity) c.in_err-price.ensures.told)
+    stops 9 _ _ c.from_residual-in_err-price.ensures.1 (stopped as_price price_form 9 (omega arith) (omega (arith, c.requires)) (at_price (goal.at.returns-in_err-price c).In_ok-quantity) c.in_err-price.ensures.told)
 
 pub returns-in_err-names : goal.returns-in_err-names
 returns-in_err-names c =
-    stops 10 _ _ c.from_residual-in_err-names.ensures.1 (stopped as_names names_form 10 (omega arith) (omega (arith, c.requires)) (at_names (goal.at.returns-in_err-names c).In-ok-price) c.in_err-names.ensures.told)
+    stops 10 _ _ c.from_residual-in_err-names.ensures.1 (stopped as_names names_form 10 (omega arith) (omega (arith, c.requires)) (at_names (goal.at.returns-in_err-names c).In_ok-price) c.in_err-names.ensures.told)
 
 pub overflow_cast-result : goal.overflow_cast-result
 overflow_cast-result c =
-    let s = (past_time (goal.at.overflow_cast-result c).In-ok-time).1 in
+    let s = (past_time (goal.at.overflow_cast-result c).In_ok-time).1 in
     omega (arith, time_small (piece 8 (fields c.args.line.now)) _ s.1, c.number.ensures ∙ ap number_of s.2)
 
 pub returns : goal.returns
 returns c =
     let h = goal.at.returns c in
-    let s-kind = (past_kind h.In-ok-kind).1 in
-    let s-id = (past_id h.In-ok-id).1 in
-    let s-contract = (past_contract h.In-ok-contract).1 in
-    let s-venue = (past_venue h.In-ok-venue).1 in
-    let s-participant = (past_participant h.In-ok-participant).1 in
-    let s-side = (past_side h.In-ok-side).1 in
-    let s-action = (past_action h.In-ok-action).1 in
-    let s-time = (past_time h.In-ok-time).1 in
-    let s-quantity = (past_quantity h.In-ok-quantity).1 in
-    let s-price = (past_price h.In-ok-price).1 in
-    let s-names = (past_names h.In-ok-names).1 in
+    let s-kind = (past_kind h.In_ok-kind).1 in
+    let s-id = (past_id h.In_ok-id).1 in
+    let s-contract = (past_contract h.In_ok-contract).1 in
+    let s-venue = (past_venue h.In_ok-venue).1 in
+    let s-participant = (past_participant h.In_ok-participant).1 in
+    let s-side = (past_side h.In_ok-side).1 in
+    let s-action = (past_action h.In_ok-action).1 in
+    let s-time = (past_time h.In_ok-time).1 in
+    let s-quantity = (past_quantity h.In_ok-quantity).1 in
+    let s-price = (past_price h.In_ok-price).1 in
+    let s-names = (past_names h.In_ok-names).1 in
     (λ i. Ok (record {
       kind = read_value Order s-kind.1 s-kind.2 i;
       id = read_value [] s-id.1 (c.bytes.ensures ∙ ap bytes_of s-id.2 ∙ word_bytes _ s-id.0) i;
@@ -184,4 +184,4 @@ returns c =
       price = read_value None s-price.1 (c.signed.ensures ∙ ap signed_of s-price.2 ∙ price_signed _ _ s-price.0) i;
       names = read_value [] s-names.1 (c.names-2.ensures ∙ ap names_of s-names.2) i;
     }))
-    ∙ sym (at_end h.In-ok-names).is
+    ∙ sym (at_end h.In_ok-names).is
