@@ -9,8 +9,8 @@ use life::{Key, Life, State};
 
 // The total of the lives of a list. It depends on the look-ups alone, not on the order of the list.
 pub fn total_of<M: Measure>(lives: &[(Key, Life)]) -> M
-    ensures sums { result ≡ total_of nil joined weight (plain lives.now) }
-    ensures unordered { (ps : Lives) → Unique (plain lives.now) → Unique ps → Same (plain lives.now) ps → result ≡ total_of nil joined weight ps }
+    ensures sums { result ≡ total_of M.nil M.joined M.weight (plain lives.now) }
+    ensures unordered { (ps : Lives) → Unique (plain lives.now) → Unique ps → Same (plain lives.now) ps → result ≡ total_of M.nil M.joined M.weight ps }
 {
     let mut sum = M::zero();
     for pair in lives {
@@ -21,8 +21,8 @@ pub fn total_of<M: Measure>(lives: &[(Key, Life)]) -> M
 
 // A life comes, wherever it then stands in the list.
 pub fn come<M: Measure>(sum: &mut M, key: &Key, life: &Life)
-    ensures joins { sum.new ≡ joined sum.old (share nil weight (key_parts key.now) (life_parts life.now)) }
-    ensures sums { (ps qs : Lives) → sum.old ≡ total_of nil joined weight (ps ++ qs) → sum.new ≡ total_of nil joined weight (ps ++ (key_parts key.now, life_parts life.now) ∷ qs) }
+    ensures joins { sum.new ≡ M.joined sum.old (share M.nil M.weight (key_parts key.now) (life_parts life.now)) }
+    ensures sums { (ps qs : Lives) → sum.old ≡ total_of M.nil M.joined M.weight (ps ++ qs) → sum.new ≡ total_of M.nil M.joined M.weight (ps ++ (key_parts key.now, life_parts life.now) ∷ qs) }
 {
     match life.state {
         State::Open => sum.put(key, life),
@@ -32,8 +32,8 @@ pub fn come<M: Measure>(sum: &mut M, key: &Key, life: &Life)
 
 // The life of a key goes.
 pub fn go<M: Measure>(sum: &mut M, key: &Key, life: &Life)
-    ensures joins { sum.new ≡ joined sum.old (inverse (share nil weight (key_parts key.now) (life_parts life.now))) }
-    ensures sums { (ps : Lives) → Unique ps → look (key_parts key.now) ps ≡ Some (life_parts life.now) → sum.old ≡ total_of nil joined weight ps → sum.new ≡ total_of nil joined weight (erase (key_parts key.now) ps) }
+    ensures joins { sum.new ≡ M.joined sum.old (M.inverse (share M.nil M.weight (key_parts key.now) (life_parts life.now))) }
+    ensures sums { (ps : Lives) → Unique ps → look (key_parts key.now) ps ≡ Some (life_parts life.now) → sum.old ≡ total_of M.nil M.joined M.weight ps → sum.new ≡ total_of M.nil M.joined M.weight (erase (key_parts key.now) ps) }
 {
     match life.state {
         State::Open => sum.take(key, life),
@@ -43,8 +43,8 @@ pub fn go<M: Measure>(sum: &mut M, key: &Key, life: &Life)
 
 // The life of a key is altered, from `old` to `new`.
 pub fn replace<M: Measure>(sum: &mut M, key: &Key, old: &Life, new: &Life)
-    ensures joins { sum.new ≡ joined (joined sum.old (inverse (share nil weight (key_parts key.now) (life_parts old.now)))) (share nil weight (key_parts key.now) (life_parts new.now)) }
-    ensures sums { (ps : Lives) (f : LifeParts → LifeParts) → Unique ps → look (key_parts key.now) ps ≡ Some (life_parts old.now) → f (life_parts old.now) ≡ life_parts new.now → sum.old ≡ total_of nil joined weight ps → sum.new ≡ total_of nil joined weight (altered (key_parts key.now) f ps) }
+    ensures joins { sum.new ≡ M.joined (M.joined sum.old (M.inverse (share M.nil M.weight (key_parts key.now) (life_parts old.now)))) (share M.nil M.weight (key_parts key.now) (life_parts new.now)) }
+    ensures sums { (ps : Lives) (f : LifeParts → LifeParts) → Unique ps → look (key_parts key.now) ps ≡ Some (life_parts old.now) → f (life_parts old.now) ≡ life_parts new.now → sum.old ≡ total_of M.nil M.joined M.weight ps → sum.new ≡ total_of M.nil M.joined M.weight (altered (key_parts key.now) f ps) }
 {
     go(sum, key, old);
     come(sum, key, new);
