@@ -16,14 +16,14 @@ use measure::Measure;
 impl<'s, S: Store, M: Measure> Checker<'s, S, M> {
     // Judges a line in an identified file, where it counts.
     pub fn judge(&mut self, file: &IdentifiedFile, line: &[u8]) -> Result<(), JudgeFault>
-        ensures { Continues room pairs nil joined weight self.old (JudgeCall file.now.number line.now) (judge_answer result) self.new }
+        ensures { Continues S.room S.pairs M.nil M.joined M.weight self.old (JudgeCall file.now.number line.now) (judge_answer result) self.new }
     {
         self.judge_at(file.number(), line)
     }
 
     // Judges a line in the file of a number.
     pub(crate) fn judge_at(&mut self, number: usize, line: &[u8]) -> Result<(), JudgeFault>
-        ensures { Step nil joined weight (book_in room pairs self.old) (total_in room pairs self.old) (JudgeCall number line.now) (judge_answer result) (book_in room pairs self.new) (total_in room pairs self.new) }
+        ensures { Step M.nil M.joined M.weight (book_in S.room S.pairs self.old) (total_in S.room S.pairs self.old) (JudgeCall number line.now) (judge_answer result) (book_in S.room S.pairs self.new) (total_in S.room S.pairs self.new) }
     {
         let answer = self.try_line(number, line);
         self.files.count_line(number, answer.is_ok());
@@ -32,7 +32,7 @@ impl<'s, S: Store, M: Measure> Checker<'s, S, M> {
 
     // What becomes of the lives, before the line is counted.
     fn try_line(&mut self, number: usize, line: &[u8]) -> Result<(), JudgeFault>
-        ensures { Tried nil joined weight (book_in room pairs self.old) (total_in room pairs self.old) number line.now (judge_answer result) (book_in room pairs self.new) (total_in room pairs self.new) }
+        ensures { Tried M.nil M.joined M.weight (book_in S.room S.pairs self.old) (total_in S.room S.pairs self.old) number line.now (judge_answer result) (book_in S.room S.pairs self.new) (total_in S.room S.pairs self.new) }
     {
         self.files.takes(number)?;
         let claim = claim(&self.contracts, line)?;

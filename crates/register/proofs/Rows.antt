@@ -15,7 +15,7 @@ use Rattle.life.specs.Parts.{KeyParts, LifeParts, life_parts}
 use Rattle.life.specs.Rules.{new_life, modified, cancelled}
 use Rattle.book.specs.Book.{acted}
 use Rattle.register.specs.declared.faults.ActFault.{ActFault}
-use Rattle.register.specs.declared.faults.ActFault.TheVariants.{Life as LifeFault}
+use Rattle.register.specs.declared.faults.ActFault.TheVariants.{Life as OfLife}
 use Rattle.register.specs.Faults.{act_number, act_field, refused_by}
 use Rattle.register.specs.Judged.{acting_rows, refusal, lives_after}
 
@@ -102,7 +102,7 @@ module _ (room : ℕ) (k : KeyParts) (a : Action) (told : Life) (ls : Lives) whe
   after o = lives_after o k a (life_parts told) ls
 
   -- `?` passes a refusal on, and the lives stay
-  refused : (e : LifeFault) (r : Result (Unit {0}) ActFault) → IsErrAnd r (λ y. y ≡ LifeFault e) → fit a told.time (look k ls) full ≡ Some (published e) → Judged room k a told ls r ls
+  refused : (e : LifeFault) (r : Result (Unit {0}) ActFault) → IsErrAnd r (λ y. y ≡ OfLife e) → fit a told.time (look k ls) full ≡ Some (published e) → Judged room k a told ls r ls
   refused e r h row =
       let p = err_from_is_err_and r h in
       record {
@@ -112,13 +112,13 @@ module _ (room : ℕ) (k : KeyParts) (a : Action) (told : Life) (ls : Lives) whe
 
   -- refused where a life stands
   pub refused_standing : (l : LifeParts) (e : LifeFault) (r : Result (Unit {0}) ActFault) → look k ls ≡ Some l → Err (life_number e, life_field e) ≡ answered a (fault_in a told (Some l)) →
-      IsErrAnd r (λ y. y ≡ LifeFault e) → Judged room k a told ls r ls
+      IsErrAnd r (λ y. y ≡ OfLife e) → Judged room k a told ls r ls
   refused_standing l e r found h by =
       refused e r by (ap (λ o. fit a told.time o full) found ∙ fit_standing a told l full ∙ act_refused a (published e) (fault_in a told (Some l)) h)
 
   -- refused where none stands
   pub refused_absent : (e : LifeFault) (r : Result (Unit {0}) ActFault) → look k ls ≡ None → Err (life_number e, life_field e) ≡ begins told (fault_in a told None) →
-      IsErrAnd r (λ y. y ≡ LifeFault e) → Judged room k a told ls r ls
+      IsErrAnd r (λ y. y ≡ OfLife e) → Judged room k a told ls r ls
   refused_absent e r none h by =
       refused e r by (ap (λ o. fit a told.time o full) none ∙ fit_absent a told (published e) full (first_refused told (published e) (fault_in a told None) h))
 

@@ -22,9 +22,9 @@ pub struct Register<'s, S, M> {
 impl<'s, S: Store, M: Measure> Register<'s, S, M> {
     // A register over an emptied store, with a total of zero.
     pub fn new(store: &'s mut S) -> Register<'s, S, M>
-        ensures holds { pairs result.store.now ≡ [] }
-        ensures keeps { room result.store.now ≡ room store.old }
-        ensures sums { result.total ≡ nil }
+        ensures holds { S.pairs result.store.now ≡ [] }
+        ensures keeps { S.room result.store.now ≡ S.room store.old }
+        ensures sums { result.total ≡ M.nil }
     {
         store.empty();
         Register {
@@ -35,14 +35,14 @@ impl<'s, S: Store, M: Measure> Register<'s, S, M> {
 
     // How many lives may be held.
     pub fn capacity(&self) -> usize
-        ensures { result ≡ room self.now.store.now }
+        ensures { result ≡ S.room self.now.store.now }
     {
         self.store.capacity()
     }
 
     // The life of a key, if one stands.
     pub fn find(&self, key: &Key) -> Option<Life>
-        ensures { life_in result ≡ look (key_parts key.now) (plain (pairs self.now.store.now)) }
+        ensures { life_in result ≡ look (key_parts key.now) (plain (S.pairs self.now.store.now)) }
     {
         self.store.find(key)
     }
@@ -56,10 +56,10 @@ impl<'s, S: Store, M: Measure> Register<'s, S, M> {
 
     // Does an action to the life of a key, as `told` by its line: time, quantity and price. A refused action changes no life.
     pub fn judge(&mut self, key: &Key, action: Action, told: &Life) -> Result<(), ActFault>
-        ensures answers { refused_by result ≡ refusal (room self.old.store.now) (key_parts key.now) action (life_parts told.now) (plain (pairs self.old.store.now)) }
-        ensures holds { Same (plain (pairs self.new.store.now)) (lives_after (refusal (room self.old.store.now) (key_parts key.now) action (life_parts told.now) (plain (pairs self.old.store.now))) (key_parts key.now) action (life_parts told.now) (plain (pairs self.old.store.now))) }
-        ensures keeps { room self.new.store.now ≡ room self.old.store.now }
-        ensures sums { self.old.total ≡ total_of nil joined weight (plain (pairs self.old.store.now)) → self.new.total ≡ total_of nil joined weight (plain (pairs self.new.store.now)) }
+        ensures answers { refused_by result ≡ refusal (S.room self.old.store.now) (key_parts key.now) action (life_parts told.now) (plain (S.pairs self.old.store.now)) }
+        ensures holds { Same (plain (S.pairs self.new.store.now)) (lives_after (refusal (S.room self.old.store.now) (key_parts key.now) action (life_parts told.now) (plain (S.pairs self.old.store.now))) (key_parts key.now) action (life_parts told.now) (plain (S.pairs self.old.store.now))) }
+        ensures keeps { S.room self.new.store.now ≡ S.room self.old.store.now }
+        ensures sums { self.old.total ≡ total_of M.nil M.joined M.weight (plain (S.pairs self.old.store.now)) → self.new.total ≡ total_of M.nil M.joined M.weight (plain (S.pairs self.new.store.now)) }
     {
         match self.store.find(key) {
             Some(old) => {
@@ -79,11 +79,11 @@ impl<'s, S: Store, M: Measure> Register<'s, S, M> {
 
     // A life enters, if there is room.
     fn enter(&mut self, key: &Key, life: Life) -> Result<(), ActFault>
-        requires { stored_at key.now (pairs self.old.store.now) ≡ None }
-        ensures answers { refused_by result ≡ (if nat_le (room self.old.store.now) (length (plain (pairs self.old.store.now))) then Some (47, 0) else None) }
-        ensures holds { Same (plain (pairs self.new.store.now)) (if nat_le (room self.old.store.now) (length (plain (pairs self.old.store.now))) then plain (pairs self.old.store.now) else (key_parts key.now, life_parts life) ∷ plain (pairs self.old.store.now)) }
-        ensures keeps { room self.new.store.now ≡ room self.old.store.now }
-        ensures sums { self.old.total ≡ total_of nil joined weight (plain (pairs self.old.store.now)) → self.new.total ≡ total_of nil joined weight (plain (pairs self.new.store.now)) }
+        requires { stored_at key.now (S.pairs self.old.store.now) ≡ None }
+        ensures answers { refused_by result ≡ (if nat_le (S.room self.old.store.now) (length (plain (S.pairs self.old.store.now))) then Some (47, 0) else None) }
+        ensures holds { Same (plain (S.pairs self.new.store.now)) (if nat_le (S.room self.old.store.now) (length (plain (S.pairs self.old.store.now))) then plain (S.pairs self.old.store.now) else (key_parts key.now, life_parts life) ∷ plain (S.pairs self.old.store.now)) }
+        ensures keeps { S.room self.new.store.now ≡ S.room self.old.store.now }
+        ensures sums { self.old.total ≡ total_of M.nil M.joined M.weight (plain (S.pairs self.old.store.now)) → self.new.total ≡ total_of M.nil M.joined M.weight (plain (S.pairs self.new.store.now)) }
     {
         match self.store.put(key, life) {
             Ok(()) => {
@@ -96,10 +96,10 @@ impl<'s, S: Store, M: Measure> Register<'s, S, M> {
 
     // The life of a key is altered, from `old` to `new`: a held key always has its place.
     fn alter(&mut self, key: &Key, old: &Life, new: Life)
-        requires { stored_at key.now (pairs self.old.store.now) ≡ Some old.now }
-        ensures holds { (f : LifeParts → LifeParts) → f (life_parts old.now) ≡ life_parts new → Same (plain (pairs self.new.store.now)) (altered (key_parts key.now) f (plain (pairs self.old.store.now))) }
-        ensures keeps { room self.new.store.now ≡ room self.old.store.now }
-        ensures sums { self.old.total ≡ total_of nil joined weight (plain (pairs self.old.store.now)) → self.new.total ≡ total_of nil joined weight (plain (pairs self.new.store.now)) }
+        requires { stored_at key.now (S.pairs self.old.store.now) ≡ Some old.now }
+        ensures holds { (f : LifeParts → LifeParts) → f (life_parts old.now) ≡ life_parts new → Same (plain (S.pairs self.new.store.now)) (altered (key_parts key.now) f (plain (S.pairs self.old.store.now))) }
+        ensures keeps { S.room self.new.store.now ≡ S.room self.old.store.now }
+        ensures sums { self.old.total ≡ total_of M.nil M.joined M.weight (plain (S.pairs self.old.store.now)) → self.new.total ≡ total_of M.nil M.joined M.weight (plain (S.pairs self.new.store.now)) }
     {
         let _ = self.store.put(key, new);
         replace(&mut self.total, key, old, &new);
@@ -107,10 +107,10 @@ impl<'s, S: Store, M: Measure> Register<'s, S, M> {
 
     // The life of a key goes.
     fn strike(&mut self, key: &Key, old: &Life)
-        requires { stored_at key.now (pairs self.old.store.now) ≡ Some old.now }
-        ensures holds { Same (plain (pairs self.new.store.now)) (erase (key_parts key.now) (plain (pairs self.old.store.now))) }
-        ensures keeps { room self.new.store.now ≡ room self.old.store.now }
-        ensures sums { self.old.total ≡ total_of nil joined weight (plain (pairs self.old.store.now)) → self.new.total ≡ total_of nil joined weight (plain (pairs self.new.store.now)) }
+        requires { stored_at key.now (S.pairs self.old.store.now) ≡ Some old.now }
+        ensures holds { Same (plain (S.pairs self.new.store.now)) (erase (key_parts key.now) (plain (S.pairs self.old.store.now))) }
+        ensures keeps { S.room self.new.store.now ≡ S.room self.old.store.now }
+        ensures sums { self.old.total ≡ total_of M.nil M.joined M.weight (plain (S.pairs self.old.store.now)) → self.new.total ≡ total_of M.nil M.joined M.weight (plain (S.pairs self.new.store.now)) }
     {
         self.store.remove(key);
         go(&mut self.total, key, old);
