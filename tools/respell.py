@@ -75,13 +75,13 @@ def respelled(name):
         return APART[name]
     name = name.replace("\u2032", "'")
     if name[0].isupper():
-        return "".join(w[0].upper() + w[1:] for w in name.split("-") if w)
+        return "".join(w[0].upper() + w[1:] for w in re.split("[-_]", name) if w)
     name = re.sub(r"([a-z0-9])([A-Z])", lambda m: m.group(1) + "_" + m.group(2).lower(), name)
     return name.replace("-", "_")
 
 
 def odd(name):
-    return "-" in name.strip("-") or "\u2032" in name or re.search(r"[a-z0-9][A-Z]", name) and name[0].islower()
+    return "-" in name.strip("-") or name[0].isupper() and "_" in name or "\u2032" in name or re.search(r"[a-z0-9][A-Z]", name) and name[0].islower()
 
 
 def table(root):

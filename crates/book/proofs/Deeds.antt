@@ -1,6 +1,6 @@
 -- The life held for a key is what the accepted lines of the key tell.
 use Rattle.std.proofs.Common.{◌≡◌, ℕ, Bool, true, false, cond, not, ◌&&◌, ◌⊎◌, List, [], ◌∷◌, ◌++◌, ℤ, Some, None, Option, sym, refl, ap, ◌∙◌, inl, inr, arith}
-use Rattle.std.specs.List.{AllByRecursion as All}
+use Rattle.std.specs.List.{AllByRecursion}
 use Rattle.text.specs.declared.words.Action.{Action}
 use Rattle.text.specs.declared.words.Action.TheVariants.{New, Modify, Error, Cancel}
 use Rattle.text.specs.Bytes.{Bytes}
@@ -14,7 +14,7 @@ use Rattle.life.specs.Rules.{new_life, modified, cancelled}
 use Rattle.life.proofs.KeyOrder.{parts_same, parts_eq}
 use Rattle.life.proofs.Lives.{same_turned, look_erase, mapped, look_altered, look_apart}
 use Rattle.book.specs.Book.{Book, empty_book, Call, AddEntity, AddContract, NameFile, Identify, Withdraw, Close, Judge, LookUp, Total, told_by, key_of, verdict, acted, applied, changed, after, end}
-use Rattle.book.specs.Laws.{Subject, a_line, no_line, subject, log, Deed, Did, deed, deeds, Goes_on, some_cancel, state_since, last_time, last_quantity, last_price, Tells, LifeLaw}
+use Rattle.book.specs.Laws.{Subject, a_line, no_line, subject, log, Deed, Did, deed, deeds, GoesOn, some_cancel, state_since, last_time, last_quantity, last_price, Tells, LifeLaw}
 
 -- ---- One line after another
 
@@ -93,7 +93,7 @@ cond_both_same : (b : Bool) (x : State) → cond b x x ≡ x
 cond_both_same true x = refl
 cond_both_same false x = refl
 
-traced_changed : (ds : List Deed) (y : LifeParts) → All Goes_on ds → traced (Some y) ds ≡ Some (changed_by y ds)
+traced_changed : (ds : List Deed) (y : LifeParts) → AllByRecursion GoesOn ds → traced (Some y) ds ≡ Some (changed_by y ds)
 traced_changed [] y h = refl
 traced_changed (Did New t q p ∷ ds) y h = absurd h.0
 traced_changed (Did Modify t q p ∷ ds) y h = traced_changed ds _ h.1
@@ -114,7 +114,7 @@ from_told ds o life s =
 
 -- the lines went on from a life that was there
 abbrev WentOn : Option LifeParts → List Deed → LifeParts → Type 0
-WentOn o ds life = (y : LifeParts) × (o ≡ Some y) × All Goes_on ds × (life ≡ changed_by y ds)
+WentOn o ds life = (y : LifeParts) × (o ≡ Some y) × AllByRecursion GoesOn ds × (life ≡ changed_by y ds)
 
 new_told : (t q : ℕ) (p : Option ℤ) (ds : List Deed) (o : Option LifeParts) (life : LifeParts) → WentOn (made New t q p o) ds life → Tells (Did New t q p ∷ ds) life
 new_told t q p ds o life w = record {

@@ -1,6 +1,6 @@
 -- Tables of rows: the first fit in joined tables, and what holds where none fits.
 use Rattle.std.proofs.Common.{◌≡◌, ℕ, Bool, true, false, cond, ◌&&◌, List, [], ◌∷◌, ◌++◌, Some, None, Option, sym, refl, ap, ◌∙◌, arith}
-use Rattle.std.specs.List.{AllByRecursion as All}
+use Rattle.std.specs.List.{AllByRecursion}
 use Rattle.text.specs.Bytes.{Bytes}
 use Rattle.text.proofs.Tables.{or_else, fit_append, fit_looking}
 use Rattle.text.specs.Rows.{Row, row, first_fit, looking_at}
@@ -26,7 +26,7 @@ passed_by true p o e = let z : ◌≡◌ {A = ℕ} 0 1 = cc in absurd (omega ari
 passed_by false p o e = (refl, e)
 
 -- where none fits, each row's test fails
-pub none_fits : {X : Type 0} (rs : List (Row X)) (x : X) → first_fit rs x ≡ None → All (λ r. r.fits x ≡ false) rs
+pub none_fits : {X : Type 0} (rs : List (Row X)) (x : X) → first_fit rs x ≡ None → AllByRecursion (λ r. r.fits x ≡ false) rs
 none_fits [] x e = tt
 none_fits (r ∷ rs) x e = let p = passed_by (r.fits x) _ _ e in (p.0, none_fits rs x p.1)
 

@@ -1,6 +1,6 @@
 -- Every run keeps the book tidy.
 use Rattle.std.proofs.Common.{◌≡◌, ℕ, zero, suc, ◌+◌, ◌<◌, ◌≤◌, Bool, true, false, cond, not, ◌&&◌, ◌||◌, leb, List, [], ◌∷◌, ◌++◌, length, set, ℤ, is_some, Some, None, Option, sym, refl, ap, ◌∙◌, subst, arith, length-append}
-use Rattle.std.specs.List.{AllByRecursion as All}
+use Rattle.std.specs.List.{AllByRecursion}
 use Rattle.std.proofs.ByRecursion.{All-set, All-push}
 use Rattle.std.proofs.lemmas.Bool.{leb-true, leb-false, not-false, or_parts, cond_both}
 use Rattle.text.specs.declared.words.Action.{Action}
@@ -70,7 +70,7 @@ staged_tidy s f h = record { all_counted = h.all_counted; within = h.within }
 named_tidy : (code : Bytes) → TidyFile (named_file code)
 named_tidy code = record { all_counted = refl; within = omega arith }
 
-file_tidy : (fs : List File) (n : ℕ) → All TidyFile fs → TidyFile (file_of fs n)
+file_tidy : (fs : List File) (n : ℕ) → AllByRecursion TidyFile fs → TidyFile (file_of fs n)
 file_tidy [] n h = staged_tidy Ended (named_file []) (named_tidy [])
 file_tidy (f ∷ fs) zero h = h.0
 file_tidy (f ∷ fs) (suc n) h = file_tidy fs n h.1
@@ -102,20 +102,20 @@ room b n bs p = by (told_by b.contracts bs).says.action
     by Error h g = tt
     by Cancel h g = tt
 
-all_altered : (k : KeyParts) (f : LifeParts → LifeParts) → ((q : KeyParts) (l : LifeParts) → TidyLife (q, l) → TidyLife (q, f l)) → (ls : Lives) → All TidyLife ls → All TidyLife (altered k f ls)
+all_altered : (k : KeyParts) (f : LifeParts → LifeParts) → ((q : KeyParts) (l : LifeParts) → TidyLife (q, l) → TidyLife (q, f l)) → (ls : Lives) → AllByRecursion TidyLife ls → AllByRecursion TidyLife (altered k f ls)
 all_altered k f g [] h = tt
 all_altered k f g (p ∷ ls) h =
     (cond_both (same_key k p.0) (f p.1) p.1 (λ l. TidyLife (p.0, l)) (λ _. g p.0 p.1 h.0) (λ _. h.0), all_altered k f g ls h.1)
 
-all_erase : (k : KeyParts) (ls : Lives) → All TidyLife ls → All TidyLife (erase k ls)
+all_erase : (k : KeyParts) (ls : Lives) → AllByRecursion TidyLife ls → AllByRecursion TidyLife (erase k ls)
 all_erase k [] h = tt
 all_erase k (p ∷ ls) h =
-    cond_both (same_key k p.0) (erase k ls) (p ∷ erase k ls) (λ qs. All TidyLife qs) (λ _. all_erase k ls h.1) (λ _. (h.0, all_erase k ls h.1))
+    cond_both (same_key k p.0) (erase k ls) (p ∷ erase k ls) (λ qs. AllByRecursion TidyLife qs) (λ _. all_erase k ls h.1) (λ _. (h.0, all_erase k ls h.1))
 
 record TidyLives (capacity : ℕ) (ls : Lives) : Type 0 where
   apart : Unique ls
   few : length ls ≤ capacity
-  each : All TidyLife ls
+  each : AllByRecursion TidyLife ls
 
 acted_tidy : (a : Action) (k : KeyParts) (t q : ℕ) (p : Option ℤ) (capacity : ℕ) (ls : Lives) → k.of_contract ≤ contract_limit → q ≤ 1_000_000_000_000 → Room a k capacity ls → TidyLives capacity ls → TidyLives capacity (acted a k t q p ls)
 acted_tidy New k t q p capacity ls c w r s = record {
@@ -142,7 +142,7 @@ acted_tidy Cancel k t q p capacity ls c w r s = record {
 -- ---- A call, and a run
 
 module _ (capacity : ℕ) where
-  files_tidy : (b : Book) (fs : List File) → Tidy capacity b → All TidyFile fs → Tidy capacity (with_files b fs)
+  files_tidy : (b : Book) (fs : List File) → Tidy capacity b → AllByRecursion TidyFile fs → Tidy capacity (with_files b fs)
   files_tidy b fs s h = record {
     as_made = s.as_made;
     no_key_twice = s.no_key_twice;

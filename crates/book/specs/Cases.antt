@@ -1,7 +1,7 @@
 -- Worked cases, as one list: the calls of each with the answers that the rules give.
 use Rattle.std.specs.Prelude.{◌≡◌, ℕ, List, [], ◌∷◌, ◌++◌, map, ℤ, pos, negsuc, Some, None, codes, Option}
 use Prim.Native.String.{String}
-use Rattle.std.specs.List.{AllByRecursion as All}
+use Rattle.std.specs.List.{AllByRecursion}
 use Rattle.life.specs.Rules.{new_life}
 use Rattle.book.specs.Book.{Book, empty_book, Call, AddEntity, AddContract, NameFile, Identify, Close, Judge, LookUp, Total, Answer, Accepted, Refused, Receipt, Found, answers}
 
@@ -131,4 +131,4 @@ cases =
     ∷ []
 
 abbrev pub CasesStand : Type 0
-CasesStand = All Stands cases
+CasesStand = AllByRecursion Stands cases

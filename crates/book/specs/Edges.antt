@@ -1,7 +1,7 @@
 -- Each row of the tables, and each limit on both sides.
 use Rattle.std.specs.Prelude.{◌≡◌, ℕ, List, [], ◌∷◌, ◌++◌, replicate, ℤ, pos, negsuc, Some, None, codes, Option}
 use Prim.Native.String.{String}
-use Rattle.std.specs.List.{AllByRecursion as All}
+use Rattle.std.specs.List.{AllByRecursion}
 use Rattle.text.specs.declared.words.Kind.TheVariants.{Order, Trade}
 use Rattle.text.specs.declared.words.Side.TheVariants.{Buy, Sell}
 use Rattle.text.specs.Bytes.{Bytes}
@@ -551,7 +551,7 @@ abbrev pub edges : List Case
 edges = of_forms ++ (of_lists ++ (of_lives ++ (of_files ++ of_limits)))
 
 abbrev pub EdgesStand : Type 0
-EdgesStand = All Stands edges
+EdgesStand = AllByRecursion Stands edges
 
 -- ---- What is held afterwards
 
@@ -612,4 +612,4 @@ SurvivorsExample =
     ∷ LookUp [] ∷ Close 1 ∷ Total ∷ Close 0 ∷ []
 
 abbrev pub EndingsStand : Type 0
-EndingsStand = All Ends endings × SurvivorsExample
+EndingsStand = AllByRecursion Ends endings × SurvivorsExample

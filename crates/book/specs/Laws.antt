@@ -1,6 +1,6 @@
 -- Laws over whole runs of the book.
 use Rattle.std.specs.Prelude.{◌≡◌, ℕ, ◌+◌, ◌≤◌, Bool, true, false, cond, not, ◌&&◌, ◌||◌, ◌↔◌, List, [], ◌∷◌, ◌++◌, length, ℤ, is_some, Some, None, Option}
-use Rattle.std.specs.List.{AllZip, AllByRecursion as All}
+use Rattle.std.specs.List.{AllZip, AllByRecursion}
 use Rattle.text.specs.declared.words.Action.{Action}
 use Rattle.text.specs.declared.words.Action.TheVariants.{New, Modify, Error, Cancel}
 use Rattle.line.specs.Lines.{Reported}
@@ -78,7 +78,7 @@ Taken no_line v = Unit {0}
 Taken (a_line k r) v = v ≡ None
 
 abbrev pub EveryLineAccepted : List Entry → Type 0
-EveryLineAccepted es = All (λ e. Taken e.judging e.refused_by) es
+EveryLineAccepted es = AllByRecursion (λ e. Taken e.judging e.refused_by) es
 
 -- the second file is where the first is, and has no more lines
 pub record FewerLines (f g : File) : Type 0 where
@@ -116,11 +116,11 @@ deeds k [] = []
 deeds k (e ∷ es) = deed k e.judging e.refused_by (deeds k es)
 
 -- a line that neither enters a life nor takes it out
-abbrev pub Goes_on : Deed → Type 0
-Goes_on (Did New t q p) = ⊥
-Goes_on (Did Modify t q p) = Unit {0}
-Goes_on (Did Error t q p) = ⊥
-Goes_on (Did Cancel t q p) = Unit {0}
+abbrev pub GoesOn : Deed → Type 0
+GoesOn (Did New t q p) = ⊥
+GoesOn (Did Modify t q p) = Unit {0}
+GoesOn (Did Error t q p) = ⊥
+GoesOn (Did Cancel t q p) = Unit {0}
 
 -- a Cancel is among the lines
 abbrev pub some_cancel : List Deed → Bool
@@ -154,7 +154,7 @@ pub record Tells (ds : List Deed) (life : LifeParts) : Type 0 where
   pub new_price : Option ℤ
   pub since : List Deed
   pub parts : ds ≡ before ++ Did New new_time new_quantity new_price ∷ since
-  pub goes_on : All Goes_on since
+  pub goes_on : AllByRecursion GoesOn since
   pub its_state : life.in_state ≡ state_since since
   pub its_time : life.at_time ≡ last_time new_time since
   pub its_quantity : life.with_quantity ≡ last_quantity new_quantity since
@@ -182,8 +182,8 @@ pub record Tidy (capacity : ℕ) (b : Book) : Type 0 where
   pub as_made : b.capacity ≡ capacity
   pub no_key_twice : Unique b.lives
   pub lives_within : length b.lives ≤ capacity
-  pub each_life : All TidyLife b.lives
-  pub each_file : All TidyFile b.files
+  pub each_life : AllByRecursion TidyLife b.lives
+  pub each_file : AllByRecursion TidyFile b.files
   pub entities_within : length b.entities ≤ entity_limit
   pub contracts_within : length b.contracts ≤ contract_limit
 

@@ -1,7 +1,7 @@
 -- Over at most 65,535 lives no sum of the position sheet wraps.
 use Rattle.std.proofs.Common.{◌≡◌, ℕ, zero, suc, ◌+◌, ◌-◌, ◌*◌, ◌%◌, ◌^◌, ◌<◌, ◌≤◌, Bool, true, false, cond, eqb, List, [], ◌∷◌, map, length, ℤ, pos, negsuc, ◌+ℤ◌, neg_ℤ, sym, refl, ap, ◌∙◌, ⊎_elim, arith, w64, to_z}
 use lib.ListN.{length-map}
-use Rattle.std.specs.List.{AllByRecursion as All}
+use Rattle.std.specs.List.{AllByRecursion}
 use Rattle.std.proofs.lemmas.Int.{ints, to_z-of_z}
 use Rattle.std.proofs.lemmas.Bool.{cases_lt, ne_eqb}
 use Rattle.text.specs.declared.words.Kind.{Kind}
@@ -88,7 +88,7 @@ share_stands n p w =
     elim p.1.in_state as (λ s. StandsFor (cell (while_open no_sheet s (sheet_weight p.0 p.1)) n) (while_open (pos 0) s (brought n p.0 p.1)) most)
     [ Open ↦ weight_stands n p w | Cancelled ↦ nothing _ most (cell_none n) ]
 
-all_stand : (n : ℕ) (ps : Lives) → All Within ps → StandsFor (cell (total_of no_sheet added sheet_weight ps) n) (true_position n ps) (length ps * most)
+all_stand : (n : ℕ) (ps : Lives) → AllByRecursion Within ps → StandsFor (cell (total_of no_sheet added sheet_weight ps) n) (true_position n ps) (length ps * most)
 all_stand n [] w = nothing _ _ (cell_none n)
 all_stand n (p ∷ ps) w =
     let x = share no_sheet sheet_weight p.0 p.1 in
@@ -100,13 +100,13 @@ all_stand n (p ∷ ps) w =
 -- ---- For those who tell positions
 
 -- a sheet that is the total of so many lives shows the true positions
-pub exact : (n : ℕ) (ps : Lives) → length ps ≤ 65535 → All Within ps → (s : Sheet) → s ≡ total_of no_sheet added sheet_weight ps → position_of s n ≡ true_position n ps
+pub exact : (n : ℕ) (ps : Lives) → length ps ≤ 65535 → AllByRecursion Within ps → (s : Sheet) → s ≡ total_of no_sheet added sheet_weight ps → position_of s n ≡ true_position n ps
 exact n ps few w s e =
     ap (λ t. position_of t n) e
     ∙ reads _ _ (length ps * most) ((total_of no_sheet added sheet_weight ps).fit n) (omega arith) (all_stand n ps w)
 
 -- the pairs that code holds are within bounds, by what keys and lives keep
-pub plain_within : (ps : List (Key × Life)) → All Within (plain ps)
+pub plain_within : (ps : List (Key × Life)) → AllByRecursion Within (plain ps)
 plain_within [] = tt
 plain_within (p ∷ ps) = (record { listed = p.0.listed; bounded = p.1.bounded }, plain_within ps)
 

@@ -1,6 +1,6 @@
 // The position sheet as a measure, and the positions that it tells.
 ghost use Rattle.std.specs.Prelude.{◌≡◌, ℕ, ◌<◌, ◌≤◌, List, length};
-ghost use Rattle.std.specs.List.{AllByRecursion as All};
+ghost use Rattle.std.specs.List.{AllByRecursion};
 ghost use Rattle.life.specs.declared.key.Key.{Key};
 ghost use Rattle.life.specs.declared.life.Life.{Life};
 ghost use Rattle.measure.specs.Laws.{sheet_group};
@@ -20,7 +20,7 @@ impl Sheet {
     // The position of a contract; 0 for a number over 63. On a sheet that is the total of at most 65,535 lives it is the true sum.
     pub fn position(&self, contract: u8) -> i64
         ensures shown { result ≡ position_of self.now contract }
-        ensures exact { (ps : Lives) → length ps ≤ 65535 → All Within ps → self.now ≡ total_of no_sheet added sheet_weight ps → result ≡ true_position contract ps }
+        ensures exact { (ps : Lives) → length ps ≤ 65535 → AllByRecursion Within ps → self.now ≡ total_of no_sheet added sheet_weight ps → result ≡ true_position contract ps }
         ensures kept { (ps : List (Key × Life)) → length ps ≤ 65535 → self.now ≡ total_of no_sheet added sheet_weight (plain ps) → result ≡ true_position contract (plain ps) }
     {
         let at = contract as usize;

@@ -1,6 +1,6 @@
 // The check word.
 ghost use Rattle.std.specs.Prelude.{◌≡◌, ◌++◌};
-ghost use Rattle.std.specs.List.{AllByRecursion as All};
+ghost use Rattle.std.specs.List.{AllByRecursion};
 ghost use Rattle.life.specs.Fnv.{word_of};
 ghost use Rattle.measure.specs.Words.{no_word, xored, same_word, word_weight, check_word, kind_byte, side_byte, price_word};
 ghost use Rattle.measure.specs.Examples.{Stands, published, worked};
@@ -19,7 +19,7 @@ impl CheckWord {
     // The word of some bytes. Published words and those of two lives stand as examples.
     pub fn of(bytes: &[u8]) -> CheckWord
         ensures is { result ≡ check_word (word_of bytes.now) }
-        ensures examples { All Stands (published ++ worked) }
+        ensures examples { AllByRecursion Stands (published ++ worked) }
     {
         CheckWord { word: hash(bytes) }
     }
