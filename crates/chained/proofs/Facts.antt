@@ -1,5 +1,5 @@
 -- What the table's invariant says of the pairs: lemmas for the ghost members of a store.
-use Rattle.std.proofs.Common.{◌≡◌, ℕ, zero, suc, ◌-◌, ◌<◌, ◌≤◌, true, cond, leb, ◌⊎◌, List, [], length, None, sym, refl, ap, ◌∙◌, subst, ⊎_elim, arith}
+use Rattle.std.proofs.Common.{◌≡◌, ℕ, zero, suc, ◌-◌, ◌<◌, ◌≤◌, true, cond, leb, List, [], length, None, sym, refl, ap, ◌∙◌, subst, ⊎_elim, arith}
 use mathlib.Core.Logic.{∥∥₁_elim}
 use std.HLevel.{Π_prop, ⊥_prop}
 use native.Mathlib.Bridge.{le_prop}

@@ -1,11 +1,11 @@
 -- Index names in a list of texts.
 use Rattle.std.proofs.Common.{◌≡◌, ℕ, ◌+◌, ◌-◌, ◌<◌, ◌≤◌, Bool, true, false, ◌&&◌, ◌||◌, eqb, leb, List, [], ◌∷◌, ◌++◌, length, get_or, take, drop, set, is_some, Some, None, Option, sym, refl, ap, ◌∙◌, append_assoc, arith}
-use Rattle.std.proofs.lemmas.List.{at_drop_more, take_more_set, length-map, length-take-le, map-append, take_rest}
+use Rattle.std.proofs.lemmas.List.{at_drop_more, take_more_set, length-map, length-take-le, take_rest}
 use Rattle.std.proofs.lemmas.Bool.{and_parts, and_right}
 use Rattle.std.proofs.lemmas.Bool.Decides.{nat_tests}
 use Rattle.text.specs.declared.bounded.Text.{Text}
-use Rattle.text.specs.Bytes.{Bytes, every, among, between, pieces, provided}
-use Rattle.text.specs.Forms.{a_name, few_names}
+use Rattle.text.specs.Bytes.{Bytes, among, between, pieces, provided}
+use Rattle.text.specs.Forms.{a_name}
 use Rattle.text.specs.Listings.{first_name}
 use Rattle.text.specs.Texts.{text_of, text_in, texts_of}
 use Rattle.text.proofs.Amongs.{texts_push}

@@ -1,12 +1,12 @@
 -- Going through the contracts one by one.
-use Rattle.std.proofs.Common.{◌≡◌, ℕ, suc, ◌+◌, ◌<◌, ◌≤◌, Bool, cond, List, [], ◌∷◌, map, length, get_or, drop, Some, None, sym, refl, ap, ◌∙◌, add-one, arith}
+use Rattle.std.proofs.Common.{◌≡◌, ℕ, suc, ◌+◌, ◌<◌, Bool, cond, List, ◌∷◌, map, length, get_or, drop, Some, sym, ap, ◌∙◌, add-one}
 use Rattle.std.specs.Str.{bytes_eq}
 use Rattle.std.proofs.lemmas.List.{at_drop_more}
 use Rattle.std.proofs.lemmas.List.Sums.{sum_by-cons}
 use Rattle.text.specs.Bytes.{Bytes}
 use Rattle.text.specs.Texts.{text_of}
 use Rattle.contract.specs.declared.held.HeldContract.{HeldContract}
-use Rattle.contract.specs.ContractList.{Contract, numbered, names_in}
+use Rattle.contract.specs.ContractList.{numbered, names_in}
 use Rattle.contract.specs.Held.{contract_of}
 use Rattle.contract.proofs.NameTexts.{names_count}
 

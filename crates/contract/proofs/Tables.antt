@@ -1,5 +1,5 @@
 -- The tables of the contract list, by what the code's tests say.
-use Rattle.std.proofs.Common.{◌≡◌, ℕ, suc, ◌+◌, Bool, true, false, cond, not, ◌&&◌, ◌||◌, eqb, ltb, leb, List, [], ◌∷◌, ◌++◌, map, length, is_some, IsErrAnd, Some, None, Ok, Err, codes, Option, Result, sym, refl, ap, ◌∙◌, arith}
+use Rattle.std.proofs.Common.{◌≡◌, ℕ, suc, ◌+◌, Bool, false, cond, not, ◌&&◌, ◌||◌, eqb, ltb, leb, List, [], ◌∷◌, ◌++◌, length, is_some, IsErrAnd, Some, None, Ok, Err, codes, Option, Result, sym, ap, ◌∙◌}
 use Rattle.std.specs.Str.{bytes_eq}
 use Rattle.std.proofs.lemmas.Result.{err_from_is_err_and}
 use Rattle.text.specs.Bytes.{Bytes, every, among, start}
@@ -9,7 +9,7 @@ use Rattle.text.proofs.Tables.{or_else, fit_append, fit_looking, none_fitted, on
 use Rattle.line.specs.Lines.{Reported}
 use Rattle.contract.specs.declared.faults.ContractFault.{ContractFault}
 use Rattle.contract.specs.declared.held.HeldContract.{HeldContract}
-use Rattle.contract.specs.ContractList.{Contract, listed, needs_style, repeats, names_in, text_rows, listing_rows, contract_rows, offered, adding, added, told, number_of, index_names_of, due, settled_plainly}
+use Rattle.contract.specs.ContractList.{Contract, listed, needs_style, repeats, names_in, text_rows, listing_rows, contract_rows, offered, adding, added, number_of, index_names_of, due, settled_plainly}
 use Rattle.contract.specs.Faults.{contract_fault_number, contract_fault_field, contract_fault_offset, contract_refusal}
 use Rattle.contract.specs.Held.{contract_of, names_of, added_in}
 use Rattle.contract.specs.Styles.{style_of}

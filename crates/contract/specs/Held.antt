@@ -1,7 +1,7 @@
 -- What the list holds and answers, as plain data.
-use Rattle.std.specs.Prelude.{ℕ, List, [], ◌∷◌, map, take, Some, None, Ok, Err, vec_items, Option, Result}
+use Rattle.std.specs.Prelude.{ℕ, List, map, take, Some, None, Ok, Err, vec_items, Option, Result}
 use Rattle.text.specs.Bytes.{Bytes}
-use Rattle.text.specs.Rows.{Refusal, Refused}
+use Rattle.text.specs.Rows.{Refusal}
 use Rattle.text.specs.Texts.{text_of, texts_of}
 use Rattle.line.specs.declared.faults.ReadFault.{ReadFault}
 use Rattle.contract.specs.declared.contracts.Found.{Found}

@@ -1,6 +1,6 @@
 // Why a contract is not added, and why a line has no contract number.
 ghost use Rattle.std.specs.Prelude.{◌≡◌, Some, None};
-ghost use Rattle.contract.specs.Faults.{contract_fault_number as number_of, contract_fault_field as field_of, contract_fault_offset as offset_of, contract_fault_code as code_of_lem, list_fault_number as list_number_of, list_fault_field as list_field_of, list_fault_code as list_code_of};
+ghost use Rattle.contract.specs.Faults.{contract_fault_number as number_of, contract_fault_field as field_of, contract_fault_offset as offset_of, contract_fault_code as contract_code_of, list_fault_number as list_number_of, list_fault_field as list_field_of, list_fault_code as list_code_of};
 ghost use Rattle.contract.specs.declared.faults.ContractFault.TheVariants.{Form};
 
 use line::ReadFault;
@@ -68,7 +68,7 @@ impl ContractFault {
 
     // The Agency's code, if it has one.
     pub fn code(&self) -> Option<&'static [u8]>
-        ensures { elim result [ None ↦ code_of_lem self.now ≡ None | Some text ↦ code_of_lem self.now ≡ Some text.now ] }
+        ensures { elim result [ None ↦ contract_code_of self.now ≡ None | Some text ↦ contract_code_of self.now ≡ Some text.now ] }
     {
         match *self {
             ContractFault::Style { .. } => Some(b"R10D0S0PTM"),

@@ -1,6 +1,6 @@
 // Why a call on a file is refused.
 ghost use Rattle.std.specs.Prelude.{◌≡◌, Some, None};
-ghost use Rattle.files.specs.Faults.{identify_number as identify_number_of, place_number as place_number_of, take_number as take_number_of, identify_code as code_of_lem};
+ghost use Rattle.files.specs.Faults.{identify_number as identify_number_of, place_number as place_number_of, take_number as take_number_of, identify_code as identify_code_of};
 ghost use Rattle.files.specs.declared.faults.NamingError.TheVariants.{Fault, NoMemory};
 
 use filing::NameFault;
@@ -51,7 +51,7 @@ impl IdentifyFault {
 
     // The Agency's code, if it has one.
     pub fn code(&self) -> Option<&'static [u8]>
-        ensures { elim result [ None ↦ code_of_lem self.now ≡ None | Some text ↦ code_of_lem self.now ≡ Some text.now ] }
+        ensures { elim result [ None ↦ identify_code_of self.now ≡ None | Some text ↦ identify_code_of self.now ≡ Some text.now ] }
     {
         match *self {
             IdentifyFault::OutOfPlace => None,

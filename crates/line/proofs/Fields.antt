@@ -4,7 +4,7 @@ use Rattle.std.proofs.lemmas.List.{drop-drop, length-take-le}
 use Rattle.std.proofs.lemmas.List.Sums.{sum_by-cons}
 use Rattle.std.proofs.lemmas.Bool.{cases_Bool}
 use Rattle.std.proofs.lemmas.Bool.Decides.{nat_tests}
-use Rattle.text.specs.Bytes.{Bytes, pieces, piece, start, onto_first}
+use Rattle.text.specs.Bytes.{Bytes, piece, start, onto_first}
 use Rattle.text.specs.Cuts.{span_to}
 use Rattle.text.specs.Rows.{fields}
 use Rattle.text.proofs.Pieces.{first_after, after_at}

@@ -1,11 +1,10 @@
 -- A reader comes to a field when the rows of the fields before it do not fit.
-use Rattle.std.proofs.Common.{◌≡◌, ℕ, suc, ◌+◌, ◌<◌, Bool, true, false, cond, not, List, [], ◌∷◌, length, drop, Some, None, Ok, Err, Option, Result, sym, refl, ap, ◌∙◌, arith}
-use Rattle.text.specs.Bytes.{Bytes, piece, start, has_form}
-use Rattle.text.specs.Rows.{Row, row, first_fit, fields, Refusal, Refused, refusal, settled, settled_by}
+use Rattle.std.proofs.Common.{◌≡◌, ℕ, suc, ◌+◌, ◌<◌, true, false, cond, not, List, ◌∷◌, length, drop, Some, None, Ok, Err, Option, Result, sym, refl, ap, ◌∙◌, arith}
+use Rattle.text.specs.Bytes.{Bytes, piece, has_form}
+use Rattle.text.specs.Rows.{Row, row, first_fit, fields, Refused, refusal, settled, settled_by}
 use Rattle.line.specs.declared.faults.ReadFault.{ReadFault}
 use Rattle.line.specs.declared.faults.ReadFault.TheVariants.{Form}
 use Rattle.line.specs.declared.place.Place.{Place}
-use Rattle.line.specs.Faults.{told}
 use Rattle.line.specs.Reads.{front, pace, next_field, formed, read}
 use Rattle.line.proofs.Fields.{offset, text, offset_zero, offset_next, texts, starts}
 

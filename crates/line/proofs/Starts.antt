@@ -4,7 +4,7 @@ use Rattle.std.proofs.lemmas.List.{drop-drop, length-take-le}
 use Rattle.std.proofs.lemmas.List.Sums.{prefix_len-le-length}
 use Rattle.std.proofs.lemmas.Bool.{cases_Bool}
 use Rattle.std.proofs.lemmas.Bool.Decides.{nat_tests}
-use Rattle.text.specs.Bytes.{Bytes, pieces, start}
+use Rattle.text.specs.Bytes.{Bytes, start}
 use Rattle.text.specs.Cuts.{span_to, front_to}
 use Rattle.text.specs.Rows.{fields}
 use Rattle.text.proofs.Pieces.{piece_and_more, piece_alone}

@@ -1,5 +1,5 @@
 -- The rules of a report line that look at nothing but the line.
-use Rattle.std.specs.Prelude.{ℕ, ◌+◌, Bool, not, List, [], ◌∷◌, length, ℤ, Some, None, Option, Result, ◌==◌}
+use Rattle.std.specs.Prelude.{ℕ, ◌+◌, Bool, not, List, [], ◌∷◌, length, ℤ, None, Option, Result, ◌==◌}
 use Rattle.text.specs.declared.words.Kind.{Kind}
 use Rattle.text.specs.declared.words.Kind.TheVariants.{Order}
 use Rattle.text.specs.declared.words.Side.{Side}

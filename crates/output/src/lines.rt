@@ -1,7 +1,7 @@
 // Answer lines.
 ghost use Rattle.std.specs.Prelude.{◌≡◌, ◌≤◌, ◌∷◌, ◌++◌, length, codes, decimal};
 ghost use Rattle.std.specs.Fmt.{signed_decimal};
-ghost use Rattle.std.specs.List.{AllByRecursion as All};
+ghost use Rattle.std.specs.List.{AllByRecursion};
 ghost use Rattle.output.specs.Buffers.{Wrote};
 ghost use Rattle.output.specs.Drafts.{Put};
 ghost use Rattle.output.specs.Examples.{Stands, examples, ReportStands};
@@ -146,6 +146,6 @@ fn put_receipt(line: &mut [u8], judged: u32, accepted: u32, refused: u32) -> usi
 
 // The examples have their texts: proved, and never run.
 fn examples_stand()
-    ensures lines { All Stands examples }
+    ensures lines { AllByRecursion Stands examples }
     ensures report { ReportStands }
 {}

@@ -1,5 +1,5 @@
 -- The fields from the left: each stage lemma says that the reader has come to the next field.
-use Rattle.std.proofs.Common.{◌≡◌, ℕ, ◌≤◌, [], length, drop, None, Ok, sym, ap, ◌∙◌, arith}
+use Rattle.std.proofs.Common.{ℕ, ◌≤◌, [], length, drop, Ok, sym, ap, ◌∙◌, arith}
 use Rattle.text.specs.Bytes.{Bytes, piece}
 use Rattle.text.specs.Forms.{id_form, names_form, few_names}
 use Rattle.text.specs.Rows.{fields, form_rows}

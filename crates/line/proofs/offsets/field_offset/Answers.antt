@@ -1,4 +1,4 @@
-use Rattle.std.proofs.Common.{◌≡◌, length, sym, ap, ◌∙◌, arith}
+use Rattle.std.proofs.Common.{sym, ap, ◌∙◌, arith}
 use Rattle.std.proofs.lemmas.List.{take_rest}
 use Rattle.text.specs.Cuts.{span_to}
 use Rattle.line.proofs.Starts.{further, found}
@@ -9,7 +9,7 @@ loop-left-preserved c =
     let rest = take_rest c.args.text.now c.loop-left.at in
     let s = c.span_to.ensures.value ∙ ap (span_to 59) rest in (
       omega (arith, c.span_to.ensures.within),
-      sym (further c.loop-left.left c.loop-left.at c.span_to.result c.args.text.now c.loop-left-test.true c.if-at-text.true s) ∙ c.loop-left.invariant.1,
+      sym (further c.loop-left.left c.loop-left.at c.span_to.result c.args.text.now (omega arith) (omega arith) s) ∙ c.loop-left.invariant.1,
     )
 
 pub returns-after-loop-left : goal.returns-after-loop-left

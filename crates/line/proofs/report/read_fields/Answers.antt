@@ -1,5 +1,5 @@
 -- The fields from the left: each stage lemma says that the reader has come to the next field.
-use Rattle.std.proofs.Common.{◌≡◌, ℕ, ◌+◌, ◌<◌, [], drop, None, Ok, sym, ap, ◌∙◌, arith}
+use Rattle.std.proofs.Common.{ℕ, [], drop, None, Ok, sym, ap, ◌∙◌, arith}
 use Rattle.text.specs.declared.words.Kind.TheVariants.{Order}
 use Rattle.text.specs.declared.words.Side.TheVariants.{Buy}
 use Rattle.text.specs.declared.words.Action.TheVariants.{New}

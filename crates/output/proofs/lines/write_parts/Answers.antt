@@ -1,4 +1,4 @@
-use Rattle.std.proofs.Common.{◌+◌, ◌<◌, ◌≤◌, [], ◌∷◌, ◌++◌, length, arith, length-append}
+use Rattle.std.proofs.Common.{◌<◌, ◌≤◌, [], ◌∷◌, ◌++◌, length, arith, length-append}
 use Rattle.output.proofs.Puts.{then}
 use Rattle.output.proofs.Writes.{fills, leaves}
 use Rattle.output.proofs.lines.write_parts.Goals as goal
@@ -20,4 +20,4 @@ returns c =
     let front = c.args.front.now in
     let last = c.args.last.now in
     let room : length (front ++ (last ++ (10 ∷ []))) ≤ length c.args.out.now = simp length-append (omega (arith, c.if-front-out.false, c.if-last-out.false)) in
-    fills (then c.put_at.ensures (then c.put-at-2.ensures c.put.ensures)) room
+    fills (then c.put-at.ensures (then c.put-at-2.ensures c.put.ensures)) room

@@ -1,4 +1,4 @@
-use Rattle.std.proofs.Common.{◌≡◌, is_some, sym, ap, ◌∙◌}
+use Rattle.std.proofs.Common.{is_some, ap, ◌∙◌}
 use Rattle.text.specs.Rows.{settled_by}
 use Rattle.text.specs.Texts.{texts_of}
 use Rattle.contract.specs.ContractList.{listed, repeats}

@@ -1,4 +1,4 @@
-use Rattle.std.proofs.Common.{◌≡◌, ◌≤◌, map, sym, ap, ◌∙◌, arith}
+use Rattle.std.proofs.Common.{◌≤◌, map, arith}
 use Rattle.std.proofs.lemmas.List.{at_drop_all}
 use Rattle.contract.specs.ContractList.{names_in}
 use Rattle.contract.specs.Held.{contract_of}

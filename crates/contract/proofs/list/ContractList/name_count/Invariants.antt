@@ -1,4 +1,4 @@
-use Rattle.std.proofs.Common.{◌≡◌, ◌+◌, ◌*◌, ◌≤◌, map, length, drop}
+use Rattle.std.proofs.Common.{◌≡◌, ◌+◌, ◌*◌, ◌≤◌, map, drop}
 use Rattle.contract.specs.ContractList.{names_in}
 use Rattle.contract.specs.Held.{contract_of, contracts_of}
 use Rattle.contract.proofs.list.ContractList.name_count.Given as goal

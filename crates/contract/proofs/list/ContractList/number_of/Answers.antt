@@ -1,4 +1,4 @@
-use Rattle.std.proofs.Common.{◌≡◌, sym, ap, ◌∙◌}
+use Rattle.std.proofs.Common.{ap, ◌∙◌}
 use Rattle.text.specs.Bytes.{every, among}
 use Rattle.text.specs.Listings.{listing}
 use Rattle.text.specs.Texts.{texts_of}
