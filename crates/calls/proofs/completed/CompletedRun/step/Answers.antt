@@ -5,8 +5,8 @@ use Rattle.calls.specs.Said.{call_said, reply_said}
 use Rattle.calls.proofs.Running.{goes_answered, goes_totalled}
 use Rattle.calls.proofs.completed.CompletedRun.step.Goals as goal
 
-pub returns-in_ok-push : goal.returns-in_ok-push
-returns-in_ok-push g c capacity past f =
+pub returns-in_ok-push-in-Answered : goal.returns-in_ok-push-in-Answered
+returns-in_ok-push-in-Answered g c capacity past f =
     let m = g.M.Measure in
     let s = g.S.Store in
     let was = c.args.self.now in
@@ -14,10 +14,10 @@ returns-in_ok-push g c capacity past f =
     let goes = c.in_ok-answer.ensures.follows capacity past f.follows in
     goes_answered m.nil m.joined m.weight capacity past (call_said c.args.call.now) (vec_items was.answers) (vec_items was.totals)
     (book_in s.room s.pairs was.checker) (book_in s.room s.pairs is) was.checker.register.total is.register.total c.in-Answered.answer (vec_items c.push.new.self)
-    c.in_ok-push.ensures.items f (sym (ap reply_said c.in-Answered.is) ∙ goes.0, goes.1)
+    c.in_ok-push-in-Answered.ensures.items f (sym (ap reply_said c.in-Answered.is) ∙ goes.0, goes.1)
 
-pub returns-in_ok-push-3 : goal.returns-in_ok-push-3
-returns-in_ok-push-3 g c capacity past f =
+pub returns-in_ok-push-in-Total-2 : goal.returns-in_ok-push-in-Total-2
+returns-in_ok-push-in-Total-2 g c capacity past f =
     let m = g.M.Measure in
     let s = g.S.Store in
     let was = c.args.self.now in
@@ -25,4 +25,4 @@ returns-in_ok-push-3 g c capacity past f =
     let goes = c.in_ok-answer.ensures.follows capacity past f.follows in
     goes_totalled m.nil m.joined m.weight capacity past (call_said c.args.call.now) (vec_items was.answers) (vec_items was.totals)
     (book_in s.room s.pairs was.checker) (book_in s.room s.pairs is) was.checker.register.total is.register.total c.in-Total.total Accepted (vec_items c.push-in-Total.new.self) (vec_items c.push-in-Total-2.new.self)
-    refl c.in_ok-push-2.ensures.items c.in_ok-push-3.ensures.items f (sym (ap reply_said c.in-Total.is) ∙ goes.0, goes.1)
+    refl c.in_ok-push-in-Total.ensures.items c.in_ok-push-in-Total-2.ensures.items f (sym (ap reply_said c.in-Total.is) ∙ goes.0, goes.1)
