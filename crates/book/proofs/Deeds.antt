@@ -1,20 +1,19 @@
 -- The life held for a key is what the accepted lines of the key tell.
-use Rattle.std.proofs.Common.{◌≡◌, ℕ, Bool, true, false, cond, not, ◌&&◌, ◌⊎◌, List, [], ◌∷◌, ◌++◌, ℤ, Some, None, Option, sym, refl, ap, ◌∙◌, inl, inr, arith}
+use Rattle.std.proofs.Common.{◌≡◌, ℕ, Bool, true, false, cond, ◌⊎◌, List, [], ◌∷◌, ◌++◌, ℤ, Some, None, Option, sym, refl, ap, ◌∙◌, inl, inr, arith}
 use Rattle.std.specs.List.{AllByRecursion}
 use Rattle.text.specs.declared.words.Action.{Action}
 use Rattle.text.specs.declared.words.Action.TheVariants.{New, Modify, Error, Cancel}
-use Rattle.text.specs.Bytes.{Bytes}
 use Rattle.line.specs.Lines.{Reported}
 use Rattle.life.specs.declared.life.State.{State}
-use Rattle.life.specs.declared.life.State.TheVariants.{Open, Cancelled}
+use Rattle.life.specs.declared.life.State.TheVariants.{Cancelled}
 use Rattle.life.specs.Parts.{KeyParts, LifeParts}
 use Rattle.life.specs.Keys.{same_key}
-use Rattle.life.specs.Lives.{Lives, look, altered, erase}
+use Rattle.life.specs.Lives.{Lives, look}
 use Rattle.life.specs.Rules.{new_life, modified, cancelled}
 use Rattle.life.proofs.KeyOrder.{parts_same, parts_eq}
 use Rattle.life.proofs.Lives.{same_turned, look_erase, mapped, look_altered, look_apart}
 use Rattle.book.specs.Book.{Book, empty_book, Call, AddEntity, AddContract, NameFile, Identify, Withdraw, Close, Judge, LookUp, Total, told_by, key_of, verdict, acted, applied, changed, after, end}
-use Rattle.book.specs.Laws.{Subject, a_line, no_line, subject, log, Deed, Did, deed, deeds, GoesOn, some_cancel, state_since, last_time, last_quantity, last_price, Tells, LifeLaw}
+use Rattle.book.specs.Laws.{a_line, subject, log, Deed, Did, deed, deeds, GoesOn, some_cancel, last_time, last_quantity, last_price, Tells, LifeLaw}
 
 -- ---- One line after another
 

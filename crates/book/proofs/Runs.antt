@@ -4,7 +4,7 @@ use Rattle.text.specs.Bytes.{Bytes}
 use Rattle.contract.specs.ContractList as contract_list
 use Rattle.filing.specs.Entities as entity_list
 use Rattle.book.specs.Book.{Book, with_entities, with_contracts, Call, AddEntity, AddContract, verdict, changed, after, answer, end, answers}
-use Rattle.book.specs.Laws.{Entry, entry, log}
+use Rattle.book.specs.Laws.{entry, log}
 
 -- ---- Runs one after another
 

@@ -2,25 +2,24 @@
 --
 -- Two books go through the run side by side: the full one, and that of the survivors, which holds exactly those lives of the full one that no
 -- Error of the rest will take out.
-use Rattle.std.proofs.Common.{◌≡◌, ℕ, zero, suc, ◌<◌, ◌≤◌, Bool, true, false, cond, not, ◌&&◌, ◌||◌, leb, List, [], ◌∷◌, ◌++◌, length, get_or, set, ℤ, is_some, Some, None, filter, Option, sym, refl, ap, ◌∙◌, subst, arith}
-use Rattle.std.specs.List.{AllZip, AllByRecursion}
+use Rattle.std.proofs.Common.{◌≡◌, ℕ, zero, suc, ◌≤◌, Bool, true, false, cond, not, ◌&&◌, ◌||◌, leb, List, [], ◌∷◌, ◌++◌, length, set, ℤ, is_some, Some, None, filter, Option, sym, refl, ap, ◌∙◌, subst, arith}
+use Rattle.std.specs.List.{AllZip}
 use Rattle.std.proofs.lemmas.List.Elements.{AllZip-push}
 use Rattle.std.proofs.lemmas.List.Filters.{length-filter_both}
-use Rattle.std.proofs.lemmas.Bool.{leb-true, leb-false, le-leb, lt-leb, not-false}
+use Rattle.std.proofs.lemmas.Bool.{leb-true, le-leb, lt-leb}
 use Rattle.text.specs.declared.words.Action.{Action}
 use Rattle.text.specs.declared.words.Action.TheVariants.{New, Modify, Error, Cancel}
 use Rattle.text.specs.Bytes.{Bytes}
 use Rattle.text.specs.Rows.{first_fit}
-use Rattle.line.specs.Lines.{Reported}
 use Rattle.contract.specs.ContractList.{Contract, offered, Told, market_rows}
-use Rattle.filing.specs.Files.{Stage, Identified, Ended, File, named_file, at_stage, identified, judged_limit, taking_rows, one_accepted, one_refused}
+use Rattle.filing.specs.Files.{Stage, Identified, Ended, File, at_stage, identified, judged_limit, taking_rows, one_accepted, one_refused}
 use Rattle.life.specs.Parts.{KeyParts, LifeParts}
 use Rattle.life.specs.Keys.{same_key}
 use Rattle.life.specs.Lives.{Lives, look, altered, erase}
 use Rattle.life.specs.Rules.{is_new, is_error, life_rows}
 use Rattle.life.proofs.KeyOrder.{parts_same, parts_eq}
-use Rattle.book.specs.Book.{Book, empty_book, with_files, with_lives, no_file, file_of, put_file, Call, AddEntity, AddContract, NameFile, Identify, Withdraw, Close, Judge, LookUp, Total, told_by, key_of, claimed, is_full, asked, verdict, acted, applied, refused_in, done, undone, changed, after, end}
-use Rattle.book.specs.Laws.{Subject, a_line, no_line, subject, Entry, entry, log, struck, left_out, survivors, Taken, EveryLineAccepted, FewerLines, Alike, SurvivorsLaw}
+use Rattle.book.specs.Book.{Book, empty_book, with_files, with_lives, no_file, file_of, put_file, Call, AddEntity, AddContract, NameFile, Identify, Withdraw, Close, Judge, LookUp, Total, told_by, key_of, claimed, is_full, asked, verdict, acted, applied, refused_in, done, changed, after, end}
+use Rattle.book.specs.Laws.{no_line, subject, Entry, entry, log, struck, survivors, Taken, EveryLineAccepted, FewerLines, Alike, SurvivorsLaw}
 use Rattle.book.proofs.Tables.{none_fits, Passed, passed, passes, room_rows}
 use Rattle.book.proofs.Tidy.{file_takes}
 

@@ -8,7 +8,7 @@ use Rattle.line.specs.Lines.{line_rows}
 use Rattle.contract.specs.ContractList.{Contract, offered, text_rows, listing_rows, contract_rows, Told, market_rows}
 use Rattle.filing.specs.Files.{taking_rows}
 use Rattle.life.specs.Rules.{is_new, life_rows}
-use Rattle.book.specs.Book.{Book, Call, Judge, LookUp, file_of, told_by, claimed, is_full, Asked, asked, judging_rows, verdict}
+use Rattle.book.specs.Book.{Book, Judge, LookUp, file_of, told_by, claimed, Asked, asked, verdict}
 
 -- ---- Joined tables
 

@@ -1,5 +1,5 @@
 -- Every run keeps the book tidy.
-use Rattle.std.proofs.Common.{◌≡◌, ℕ, zero, suc, ◌+◌, ◌<◌, ◌≤◌, Bool, true, false, cond, not, ◌&&◌, ◌||◌, leb, List, [], ◌∷◌, ◌++◌, length, set, ℤ, is_some, Some, None, Option, sym, refl, ap, ◌∙◌, subst, arith, length-append}
+use Rattle.std.proofs.Common.{◌≡◌, ℕ, zero, suc, ◌+◌, ◌<◌, ◌≤◌, Bool, true, false, cond, ◌&&◌, leb, List, [], ◌∷◌, length, set, ℤ, is_some, Some, None, Option, sym, refl, ◌∙◌, subst, arith, length-append}
 use Rattle.std.specs.List.{AllByRecursion}
 use Rattle.std.proofs.ByRecursion.{All-set, All-push}
 use Rattle.std.proofs.lemmas.Bool.{leb-true, leb-false, not-false, or_parts, cond_both}
@@ -8,15 +8,15 @@ use Rattle.text.specs.declared.words.Action.TheVariants.{New, Modify, Error, Can
 use Rattle.text.specs.Bytes.{Bytes, pieces, value, then}
 use Rattle.text.specs.Forms.{at_most, decimal_of, decimal_form, quantity_form}
 use Rattle.text.specs.Rows.{first_fit}
-use Rattle.contract.specs.ContractList.{Contract, contract_limit, numbered, number_of, Told, contract_number, bilateral, listing_rows, text_rows, offered}
+use Rattle.contract.specs.ContractList.{Contract, contract_limit, numbered, number_of, contract_number, bilateral, listing_rows, text_rows, offered}
 use Rattle.filing.specs.Entities.{entity_limit, entity_rows}
 use Rattle.filing.specs.Files.{Stage, Identified, Ended, File, named_file, at_stage, identified, judged_limit, taking_rows, one_accepted, one_refused}
 use Rattle.life.specs.Parts.{KeyParts, LifeParts}
 use Rattle.life.specs.Keys.{same_key}
-use Rattle.life.specs.Lives.{Pair, Lives, look, altered, erase, Unique}
-use Rattle.life.specs.Rules.{Claim, life_rows, standing, is_new, new_life, modified, cancelled}
+use Rattle.life.specs.Lives.{Lives, look, altered, erase, Unique}
+use Rattle.life.specs.Rules.{life_rows, standing, is_new, new_life, modified, cancelled}
 use Rattle.life.proofs.Lives.{unique_from, unique_erase, unique_altered, length_altered, length_erase}
-use Rattle.book.specs.Book.{Book, empty_book, with_files, with_lives, no_file, file_of, put_file, Call, AddEntity, AddContract, NameFile, Identify, Withdraw, Close, Judge, LookUp, Total, told_by, key_of, claimed, asked, verdict, acted, refused_in, done, undone, changed, after, end}
+use Rattle.book.specs.Book.{Book, empty_book, with_files, with_lives, file_of, put_file, Call, AddEntity, AddContract, NameFile, Identify, Withdraw, Close, Judge, LookUp, Total, told_by, key_of, claimed, asked, verdict, acted, refused_in, changed, after, end}
 use Rattle.book.specs.Laws.{TidyFile, TidyLife, Tidy, TidyLaw}
 use Rattle.book.proofs.Tables.{or_none, none_fits, Passed, passed, contract_parts, room_rows}
 

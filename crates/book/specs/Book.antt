@@ -1,5 +1,5 @@
 -- The book: what is held and answered, said by the capacity and the calls alone.
-use Rattle.std.specs.Prelude.{ℕ, Bool, true, false, cond, not, ◌&&◌, List, [], ◌∷◌, ◌++◌, length, ℤ, is_some, Some, None, Option, nat_le, slice_index_or, slice_set}
+use Rattle.std.specs.Prelude.{ℕ, Bool, cond, ◌&&◌, List, [], ◌∷◌, ◌++◌, length, ℤ, is_some, Some, None, Option, nat_le, slice_index_or, slice_set}
 use Rattle.text.specs.declared.words.Action.{Action}
 use Rattle.text.specs.declared.words.Action.TheVariants.{New, Modify, Error, Cancel}
 use Rattle.text.specs.Bytes.{Bytes, start, value}
@@ -8,7 +8,7 @@ use Rattle.line.specs.Lines.{Reported, report, line_rows}
 use Rattle.contract.specs.ContractList.{Contract, offered, contract_rows, Told, told, market_rows, contract_number}
 use Rattle.filing.specs.Entities.{entity_rows}
 use Rattle.filing.specs.Names.{name_form, naming_rows}
-use Rattle.filing.specs.Files.{Stage, Named, Identified, Ended, File, named_file, at_stage, identifying_rows, withdrawing_rows, closing_rows, taking_rows, one_accepted, one_refused}
+use Rattle.filing.specs.Files.{Identified, Ended, File, named_file, at_stage, identifying_rows, withdrawing_rows, closing_rows, taking_rows, one_accepted, one_refused}
 use Rattle.life.specs.Parts.{KeyParts, LifeParts}
 use Rattle.life.specs.Lives.{Lives, look, altered, erase}
 use Rattle.life.specs.Rules.{Claim, is_new, life_rows, new_life, modified, cancelled}

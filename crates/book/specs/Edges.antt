@@ -2,8 +2,8 @@
 use Rattle.std.specs.Prelude.{◌≡◌, ℕ, List, [], ◌∷◌, ◌++◌, replicate, ℤ, pos, negsuc, Some, None, codes, Option}
 use Prim.Native.String.{String}
 use Rattle.std.specs.List.{AllByRecursion}
-use Rattle.text.specs.declared.words.Kind.TheVariants.{Order, Trade}
-use Rattle.text.specs.declared.words.Side.TheVariants.{Buy, Sell}
+use Rattle.text.specs.declared.words.Kind.TheVariants.{Trade}
+use Rattle.text.specs.declared.words.Side.TheVariants.{Sell}
 use Rattle.text.specs.Bytes.{Bytes}
 use Rattle.contract.specs.ContractList.{Contract, offered}
 use Rattle.filing.specs.Files.{Identified, Ended, File, named_file, at_stage}

@@ -1,5 +1,5 @@
 -- Laws over whole runs of the book.
-use Rattle.std.specs.Prelude.{◌≡◌, ℕ, ◌+◌, ◌≤◌, Bool, true, false, cond, not, ◌&&◌, ◌||◌, ◌↔◌, List, [], ◌∷◌, ◌++◌, length, ℤ, is_some, Some, None, Option}
+use Rattle.std.specs.Prelude.{◌≡◌, ℕ, ◌+◌, ◌≤◌, Bool, true, false, cond, ◌&&◌, ◌||◌, ◌↔◌, List, [], ◌∷◌, ◌++◌, length, ℤ, Some, None, Option}
 use Rattle.std.specs.List.{AllZip, AllByRecursion}
 use Rattle.text.specs.declared.words.Action.{Action}
 use Rattle.text.specs.declared.words.Action.TheVariants.{New, Modify, Error, Cancel}
@@ -11,7 +11,7 @@ use Rattle.life.specs.declared.life.State.{State}
 use Rattle.life.specs.declared.life.State.TheVariants.{Open, Cancelled}
 use Rattle.life.specs.Parts.{KeyParts, LifeParts}
 use Rattle.life.specs.Keys.{same_key}
-use Rattle.life.specs.Lives.{Pair, Lives, look, Unique}
+use Rattle.life.specs.Lives.{Pair, look, Unique}
 use Rattle.life.specs.Rules.{is_error, is_cancel}
 use Rattle.book.specs.Book.{Book, empty_book, Call, AddEntity, AddContract, NameFile, Identify, Withdraw, Close, Judge, LookUp, Total, told_by, key_of, verdict, after, end}
 

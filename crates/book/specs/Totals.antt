@@ -1,6 +1,5 @@
 -- Totals: what a run is told of them; and that what the open lives weigh together does not depend on their order, in any commutative group.
 use Rattle.std.specs.Prelude.{◌≡◌, List, [], ◌∷◌}
-use Rattle.text.specs.Bytes.{Bytes}
 use Rattle.life.specs.Parts.{KeyParts, LifeParts}
 use Rattle.life.specs.Lives.{Lives, Unique, Same}
 use Rattle.measure.specs.Group.{Group}

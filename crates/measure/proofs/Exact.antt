@@ -1,5 +1,5 @@
 -- Over at most 65,535 lives no sum of the position sheet wraps.
-use Rattle.std.proofs.Common.{◌≡◌, ℕ, zero, suc, ◌+◌, ◌-◌, ◌*◌, ◌%◌, ◌^◌, ◌<◌, ◌≤◌, Bool, true, false, cond, eqb, List, [], ◌∷◌, map, length, ℤ, pos, negsuc, ◌+ℤ◌, neg_ℤ, sym, refl, ap, ◌∙◌, ⊎_elim, arith, w64, to_z}
+use Rattle.std.proofs.Common.{◌≡◌, ℕ, suc, ◌+◌, ◌-◌, ◌*◌, ◌%◌, ◌^◌, ◌<◌, ◌≤◌, true, false, cond, eqb, List, [], ◌∷◌, length, ℤ, pos, negsuc, ◌+ℤ◌, neg_ℤ, sym, refl, ap, ◌∙◌, ⊎_elim, arith, w64, to_z}
 use lib.ListN.{length-map}
 use Rattle.std.specs.List.{AllByRecursion}
 use Rattle.std.proofs.lemmas.Int.{ints, to_z-of_z}
@@ -10,9 +10,7 @@ use Rattle.text.specs.declared.words.Side.{Side}
 use Rattle.text.specs.declared.words.Side.TheVariants.{Buy, Sell}
 use Rattle.life.specs.declared.key.Key.{Key}
 use Rattle.life.specs.declared.life.Life.{Life}
-use Rattle.life.specs.declared.life.State.{State}
 use Rattle.life.specs.declared.life.State.TheVariants.{Open, Cancelled}
-use Rattle.life.specs.Parts.{KeyParts, LifeParts}
 use Rattle.measure.specs.declared.sheet.Sheet.{Sheet}
 use Rattle.measure.specs.Group.{Group}
 use Rattle.life.specs.Lives.{Pair, Lives, plain_pair, plain, Unique, Same}

@@ -8,7 +8,7 @@ use Rattle.life.specs.declared.life.Life.{Life}
 use Rattle.life.specs.Parts.{KeyParts, LifeParts, key_parts, life_parts}
 use Rattle.measure.specs.Group.{Group}
 use Rattle.life.specs.Keys.{same_key}
-use Rattle.life.specs.Lives.{Pair, Lives, plain_pair, plain, look, Unique, Same, altered, erase}
+use Rattle.life.specs.Lives.{Lives, plain_pair, plain, look, Unique, Same, altered, erase}
 use Rattle.measure.specs.Totals.{share, total_of}
 use Rattle.life.proofs.KeyOrder.{parts_same, parts_eq}
 use Rattle.life.proofs.Lives.{unique_parts, unique_erase, same_rest}

@@ -1,5 +1,5 @@
 -- Examples of FNV-1a words.
-use Rattle.std.specs.Prelude.{◌≡◌, ℕ, List, [], ◌∷◌, pos, negsuc, Some, None, codes}
+use Rattle.std.specs.Prelude.{◌≡◌, ℕ, List, [], ◌∷◌, negsuc, Some, None, codes}
 use Rattle.text.specs.Bytes.{Bytes}
 use Rattle.text.specs.declared.words.Kind.TheVariants.{Order, Trade}
 use Rattle.text.specs.declared.words.Side.TheVariants.{Buy, Sell}

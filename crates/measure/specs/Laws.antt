@@ -8,7 +8,6 @@ use Rattle.std.specs.Int.Bits.{xor_assoc, xor_zero_l, xor_self}
 use Rattle.std.proofs.lemmas.Nat.{xor_comm}
 use Rattle.std.proofs.lemmas.List.{ext_get_or}
 use Rattle.measure.specs.declared.sheet.Sheet.{Sheet}
-use Rattle.measure.specs.declared.both.Both.{Both}
 use Rattle.measure.specs.Group.{Group}
 use Rattle.measure.specs.Words.{check_word, no_word, xored, same_word}
 use Rattle.measure.specs.Sheets.{cells_at, sheet, cell, no_sheet, added, negated}

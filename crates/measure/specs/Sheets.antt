@@ -1,6 +1,6 @@
 -- The position sheet: 64 sums modulo 2^64, shown as signed numbers.
 use Rattle.std.specs.Prelude.{◌≡◌, ℕ, suc, ◌+◌, ◌-◌, ◌%◌, ◌^◌, ◌<◌, cond, List, map, length, ℤ, pos, negsuc, ◌==◌, slice_index}
-use Rattle.std.proofs.Common.{sym, ◌∙◌, ⊎_elim, arith, to_z}
+use Rattle.std.proofs.Common.{⊎_elim, arith, to_z}
 use Rattle.std.specs.Int.{w64}
 use Rattle.std.specs.List.{range_with_len}
 use Rattle.std.proofs.lemmas.List.FromFn.{length-map-range_with_len, get_or-map-range_with_len}

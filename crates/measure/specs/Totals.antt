@@ -1,5 +1,5 @@
 -- Totals: what the open lives of a list weigh together, in any measure.
-use Rattle.std.specs.Prelude.{List, [], ◌∷◌}
+use Rattle.std.specs.Prelude.{[], ◌∷◌}
 use Rattle.life.specs.declared.life.State.{State}
 use Rattle.life.specs.declared.life.State.TheVariants.{Open, Cancelled}
 use Rattle.life.specs.Parts.{KeyParts, LifeParts}

@@ -1,4 +1,4 @@
-use Rattle.std.proofs.Common.{◌≡◌, sym, ap, ◌∙◌, take_all}
+use Rattle.std.proofs.Common.{◌≡◌, ap, ◌∙◌, take_all}
 use Rattle.life.specs.Parts.{key_parts, life_parts}
 use Rattle.life.specs.Lives.{plain}
 use Rattle.measure.specs.Totals.{share, total_of}

@@ -1,4 +1,4 @@
-use Rattle.std.proofs.Common.{◌≡◌, ℕ, List, [], ◌∷◌, ◌++◌, sym, ap, ◌∙◌}
+use Rattle.std.proofs.Common.{◌≡◌, ℕ, List, [], ◌∷◌, ap, ◌∙◌}
 use Rattle.life.specs.Fnv.{fnv}
 use Rattle.text.specs.Texts.{text_of}
 use Rattle.measure.specs.Words.{check_word, low_first, kind_byte, side_byte, price_word}
