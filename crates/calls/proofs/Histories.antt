@@ -1,18 +1,15 @@
 -- One step of the book that is held is one call more of its history.
-use Rattle.std.proofs.Common.{◌≡◌, ℕ, Bool, true, false, cond, List, [], ◌∷◌, ◌++◌, length, ℤ, Some, None, Option, sym, refl, ap, ◌∙◌, subst, arith}
+use Rattle.std.proofs.Common.{◌≡◌, ℕ, cond, List, [], ◌∷◌, ◌++◌, ℤ, Some, None, Option, sym, refl, ap, ◌∙◌, subst}
 use Rattle.text.specs.declared.words.Action.{Action}
 use Rattle.text.specs.declared.words.Action.TheVariants.{New, Modify, Error, Cancel}
-use Rattle.text.specs.Bytes.{Bytes}
-use Rattle.text.specs.Rows.{fields}
 use Rattle.contract.specs.ContractList.{Told}
 use Rattle.life.specs.Parts.{KeyParts, LifeParts}
 use Rattle.life.specs.Keys.{same_key}
-use Rattle.life.specs.Lives.{Lives, look, altered, erase, Unique, Same}
+use Rattle.life.specs.Lives.{Lives, look, altered, Unique, Same}
 use Rattle.life.proofs.Lives.{same_erase, look_altered_at, length_same, mapped}
 use Rattle.measure.specs.Group.{Group}
-use Rattle.measure.specs.Totals.{total_of}
 use Rattle.measure.proofs.Sums.{total_same}
-use Rattle.book.specs.Book.{Book, empty_book, Call, AddEntity, AddContract, NameFile, Identify, Withdraw, Close, Judge, LookUp, Total, Answer, told_by, key_of, verdict, acted, done, undone, changed, after, granted, answered, answer, end}
+use Rattle.book.specs.Book.{Book, empty_book, Call, AddEntity, AddContract, NameFile, Identify, Withdraw, Close, Judge, LookUp, Total, Answer, told_by, key_of, verdict, acted, done, undone, changed, after, granted, answered, answer}
 use Rattle.book.specs.Laws.{Tidy}
 use Rattle.book.proofs.Runs.{end_append}
 use Rattle.book.proofs.Tidy.{tidy_law}

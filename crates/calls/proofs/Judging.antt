@@ -1,22 +1,19 @@
 -- Judging a line, from its file over its text and contract to its life, is the book's table of judging.
-use Rattle.std.proofs.Common.{◌≡◌, ℕ, Bool, true, false, cond, ◌&&◌, leb, List, [], ◌∷◌, ◌++◌, length, set, is_some, is_ok, IsErrAnd, Some, None, Ok, Err, Option, Result, sym, refl, ap, ◌∙◌, subst, arith}
+use Rattle.std.proofs.Common.{◌≡◌, ℕ, Bool, cond, ◌&&◌, leb, List, [], ◌∷◌, length, set, is_some, is_ok, IsErrAnd, Some, None, Ok, Err, Option, Result, sym, refl, ap, ◌∙◌, subst, arith}
 use Rattle.std.proofs.lemmas.Result.{err_from_is_err_and}
-use Rattle.text.specs.declared.words.Action.{Action}
 use Rattle.text.specs.declared.words.Kind.{Kind}
 use Rattle.text.specs.Bytes.{Bytes, start}
-use Rattle.text.specs.Rows.{Row, row, first_fit, fields, looking_at, settled_by}
+use Rattle.text.specs.Rows.{row, first_fit, fields, settled_by}
 use Rattle.text.proofs.Tables.{or_else, one_fitted}
 use Rattle.line.specs.Lines.{line_rows}
 use Rattle.contract.specs.ContractList.{Told, market_rows}
 use Rattle.files.specs.declared.faults.TakeFault.{TakeFault}
 use Rattle.files.specs.Answers.{take_refusal}
 use Rattle.files.specs.Faults.{take_number}
-use Rattle.filing.specs.Files.{File, taking_rows, one_accepted, one_refused}
+use Rattle.filing.specs.Files.{File, taking_rows, one_accepted}
 use Rattle.files.specs.Files.{file_of, counted}
-use Rattle.life.specs.declared.key.Key.{Key}
-use Rattle.life.specs.declared.life.Life.{Life}
 use Rattle.life.specs.Parts.{KeyParts, LifeParts, key_parts, life_parts}
-use Rattle.life.specs.Lives.{Lives, look, Same}
+use Rattle.life.specs.Lives.{look, Same}
 use Rattle.life.specs.Rules.{Claim, is_new, life_rows}
 use Rattle.claims.specs.declared.claimed.Claim as code
 use Rattle.claims.specs.declared.faults.LineFault.{LineFault}
@@ -24,10 +21,10 @@ use Rattle.claims.specs.Claims.{Claimed, claimed_by, claiming}
 use Rattle.claims.specs.Faults.{line_fault_number, line_fault_field, line_fault_offset}
 use Rattle.claims.specs.Made.{claim_of, claim_in}
 use Rattle.register.specs.declared.faults.ActFault.{ActFault}
-use Rattle.register.specs.Faults.{act_number, act_field, refused_by}
-use Rattle.register.specs.Judged.{acting_rows, refusal, lives_after}
-use Rattle.book.specs.Book.{Book, with_files, Call, Judge, LookUp, Answer, Accepted, Refused, told_by, key_of, claimed, looking_rows, verdict, acted, refused_in, done, undone, changed, after, answered, answer}
-use Rattle.book.proofs.Tables.{fit_parts, judging_parts, looking_parts, room_rows, passed}
+use Rattle.register.specs.Faults.{act_field, refused_by}
+use Rattle.register.specs.Judged.{refusal, lives_after}
+use Rattle.book.specs.Book.{Book, with_files, Judge, Refused, told_by, key_of, claimed, looking_rows, verdict, changed, after, answered, answer}
+use Rattle.book.proofs.Tables.{fit_parts, judging_parts, looking_parts, passed}
 use Rattle.calls.specs.declared.faults.JudgeFault.{JudgeFault}
 use Rattle.calls.specs.declared.faults.JudgeFault.TheVariants as fault
 use Rattle.calls.specs.Follows.{book_total}

@@ -1,15 +1,15 @@
 -- What the code did at one call is one step of the book that is held.
-use Rattle.std.proofs.Common.{◌≡◌, ℕ, Bool, true, false, cond, List, [], ◌∷◌, ◌++◌, length, set, is_some, IfOk, Some, None, Ok, Err, Option, Result, sym, refl, ap, ◌∙◌, subst, arith}
-use Rattle.text.specs.Bytes.{Bytes, start, value}
+use Rattle.std.proofs.Common.{◌≡◌, ℕ, Bool, true, false, cond, List, [], is_some, IfOk, Some, None, Ok, Err, Option, Result, sym, refl, ap, ◌∙◌, arith}
+use Rattle.text.specs.Bytes.{Bytes, start}
 use Rattle.text.specs.Rows.{first_fit, fields, settled_by}
 use Rattle.filing.specs.declared.entities.EntityFault.{EntityFault}
 use Rattle.filing.specs.Entities as entity_list
-use Rattle.filing.specs.Faults.{entity_number, refused_by}
-use Rattle.filing.specs.Names.{name_form, naming_rows}
+use Rattle.filing.specs.Faults.{refused_by}
+use Rattle.filing.specs.Names.{naming_rows}
 use Rattle.contract.specs.declared.faults.ContractFault.{ContractFault}
 use Rattle.contract.specs.ContractList as contract_list
 use Rattle.contract.specs.Held.{added_in}
-use Rattle.filing.specs.Files.{Stage, Identified, Ended, File, named_file, at_stage, identifying_rows, withdrawing_rows, closing_rows}
+use Rattle.filing.specs.Files.{File, identifying_rows, withdrawing_rows, closing_rows}
 use Rattle.files.specs.declared.faults.IdentifyFault.{IdentifyFault}
 use Rattle.files.specs.declared.faults.NamingError.{NamingError}
 use Rattle.files.specs.declared.faults.NamingError.TheVariants.{Fault, NoMemory}
@@ -26,8 +26,8 @@ use Rattle.claims.specs.declared.claimed.Claim.{Claim}
 use Rattle.claims.specs.declared.faults.LineFault.{LineFault}
 use Rattle.claims.specs.Claims.{claimed_by, claiming}
 use Rattle.claims.specs.Made.{claim_of, claim_in}
-use Rattle.life.specs.Lives.{look, Same}
-use Rattle.book.specs.Book.{Book, with_entities, with_contracts, with_files, Call, AddEntity, AddContract, NameFile, Identify, Withdraw, Close, Judge, LookUp, Total, Answer, Accepted, Refused, Found, receipt, told_by, verdict, done, undone, changed, after, granted, answered, answer, text_of}
+use Rattle.life.specs.Lives.{look}
+use Rattle.book.specs.Book.{Book, with_entities, with_contracts, with_files, Call, AddEntity, AddContract, NameFile, Identify, Withdraw, Close, LookUp, Total, Answer, Accepted, Refused, Found, receipt, told_by, verdict, done, undone, changed, after, granted, answered, answer, text_of}
 use Rattle.book.proofs.Runs.{entities_after, contracts_after}
 use Rattle.calls.specs.Follows.{book_total}
 use Rattle.calls.specs.Said.{entity_answer, contract_answer, naming_answer, identify_answer, token_answer, ending_answer, receipt_said, finding_answer}

@@ -1,5 +1,5 @@
 -- The published number, field, offset and code of a line's refusal.
-use Rattle.std.specs.Prelude.{ℕ, Some, None, Option}
+use Rattle.std.specs.Prelude.{ℕ, None, Option}
 use Rattle.text.specs.Bytes.{Bytes}
 use Rattle.files.specs.Faults.{take_number}
 use Rattle.claims.specs.Faults.{line_fault_number, line_fault_field, line_fault_offset, line_fault_code}

@@ -1,9 +1,9 @@
 -- What is held after a list of calls on a new checker: what the book holds after them.
-use Rattle.std.specs.Prelude.{◌≡◌, ℕ, List, [], ◌∷◌, ◌++◌, length}
+use Rattle.std.specs.Prelude.{◌≡◌, ℕ, List, length}
 use Rattle.life.specs.Parts.{KeyParts, LifeParts}
 use Rattle.life.specs.Lives.{Same}
 use Rattle.measure.specs.Totals.{total_of}
-use Rattle.book.specs.Book.{Book, empty_book, Call, Answer, answer, answers, end}
+use Rattle.book.specs.Book.{Book, empty_book, Call, Answer, answers, end}
 use Rattle.book.specs.Totals.{totals}
 
 -- the book after these calls, from the empty one with room for so many lives

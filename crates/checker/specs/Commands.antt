@@ -1,5 +1,5 @@
 -- What the program answers to a line of input.
-use Rattle.std.specs.Prelude.{ℕ, Bool, true, false, not, List, [], ◌∷◌, length, take, drop, Some, None, Ok, Err, codes, Option, Result, nat_lt}
+use Rattle.std.specs.Prelude.{ℕ, not, List, ◌∷◌, length, take, drop, Some, None, Ok, Err, codes, Option, Result, nat_lt}
 use Rattle.std.specs.Str.{bytes_eq}
 use Rattle.text.specs.Bytes.{Bytes}
 use Rattle.text.specs.Rows.{Row, row, first_fit, looking_at}

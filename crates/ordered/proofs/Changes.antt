@@ -1,5 +1,5 @@
 -- What a replaced, an inserted and a deleted entry do to a table.
-use Rattle.std.proofs.Common.{◌≡◌, ℕ, ◌+◌, ◌-◌, ◌<◌, ◌≤◌, ◌⊎◌, List, length, set, is_some, Some, Ok, Err, sym, refl, ap, ◌∙◌, ⊎_elim, true≢false, arith}
+use Rattle.std.proofs.Common.{◌≡◌, ℕ, ◌+◌, ◌-◌, ◌<◌, ◌≤◌, List, length, set, is_some, Some, Ok, Err, sym, refl, ap, ◌∙◌, ⊎_elim, true≢false, arith}
 use Rattle.std.proofs.lemmas.List.{length-set}
 use Rattle.std.proofs.lemmas.Bool.{cases_order, cases_eq, cases_lt, or_left, or_right, or_from, lt-ltb, le-ltb}
 use Rattle.life.specs.declared.key.Key.{Key}

@@ -1,5 +1,5 @@
 -- What stands where in a table, and what that says of the pairs.
-use Rattle.std.proofs.Common.{◌≡◌, ℕ, zero, suc, ◌+◌, ◌-◌, ◌<◌, ◌≤◌, cond, leb, ◌⊎◌, List, ◌∷◌, length, get_or, set, Some, None, Option, Less, Equal, Greater, sym, refl, ap, ◌∙◌, subst, inl, inr, ⊎_elim, true≢false, arith}
+use Rattle.std.proofs.Common.{◌≡◌, ℕ, zero, suc, ◌+◌, ◌<◌, ◌≤◌, cond, leb, ◌⊎◌, List, ◌∷◌, length, get_or, set, Some, None, Option, Less, Equal, Greater, sym, refl, ap, ◌∙◌, subst, inl, inr, ⊎_elim, true≢false, arith}
 use mathlib.Core.Logic.{∥∥₁_elim}
 use std.HLevel.{Π_prop}
 use native.Mathlib.Bridge.{le_prop}

@@ -1,5 +1,5 @@
 -- Loops over the marks of a run.
-use Rattle.std.proofs.Common.{◌≡◌, ℕ, zero, suc, ◌+◌, ◌%◌, ◌<◌, ◌≤◌, Bool, true, false, cond, not, ◌&&◌, ◌||◌, ◌⊎◌, List, [], ◌∷◌, ◌++◌, map, length, get_or, drop, set, Some, None, Option, sym, refl, ap, ◌∙◌, subst, inl, inr, ⊎_elim, append_assoc, append-nil, mod-lt, add-one, arith, length-set, get_or-set_other, get_or-set_same}
+use Rattle.std.proofs.Common.{◌≡◌, ℕ, zero, suc, ◌+◌, ◌%◌, ◌<◌, ◌≤◌, Bool, true, false, cond, ◌||◌, ◌⊎◌, List, [], ◌∷◌, ◌++◌, map, length, get_or, drop, set, Some, None, Option, sym, refl, ap, ◌∙◌, subst, inl, inr, ⊎_elim, append_assoc, append-nil, mod-lt, add-one, arith, length-set, get_or-set_other, get_or-set_same}
 use mathlib.Core.List.{map-append}
 use lib.ListN.{length-map}
 use Rattle.std.proofs.lemmas.List.{drop_all, get_or_past, get_or_default}
@@ -8,8 +8,8 @@ use Rattle.life.specs.Parts.{KeyParts}
 use Rattle.life.specs.Keys.{same_key}
 use Rattle.life.specs.Fnv.{word_of}
 use Rattle.life.proofs.KeyOrder.{parts_eq}
-use Rattle.book.specs.Book.{Book, Call, verdict, after}
-use Rattle.book.specs.Laws.{Subject, a_line, no_line, subject, Entry, entry, log, strikes, struck, left_out, survivors}
+use Rattle.book.specs.Book.{Book, Call, after}
+use Rattle.book.specs.Laws.{Subject, a_line, no_line, Entry, log, strikes, struck, left_out, survivors}
 use Rattle.calls.specs.declared.call.Call.{Call as Spoken}
 use Rattle.calls.specs.Said.{call_said, calls_said}
 use Rattle.resends.specs.declared.mark.Mark.{Mark}

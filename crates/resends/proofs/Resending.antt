@@ -1,14 +1,14 @@
 -- A run, what is left of it, and the run of that.
-use Rattle.std.proofs.Common.{◌≡◌, ℕ, List, [], ◌∷◌, ◌++◌, length, Some, None, Option, sym, refl, ap, ◌∙◌, subst}
-use Rattle.std.specs.List.{AllZip, AllByRecursion}
+use Rattle.std.proofs.Common.{◌≡◌, ℕ, List, [], ◌∷◌, length, sym, ap, ◌∙◌, subst}
+use Rattle.std.specs.List.{AllZip}
 use Rattle.life.specs.Parts.{KeyParts, LifeParts}
-use Rattle.life.specs.Lives.{Lives, look, Same}
-use Rattle.book.specs.Book.{Book, empty_book, Call, AddEntity, AddContract, NameFile, Identify, Withdraw, Close, Judge, LookUp, Total, Answer, Accepted, verdict, answered, answer, after, answers, end}
-use Rattle.book.specs.Laws.{Entry, log, survivors, Taken, subject, EveryLineAccepted, FewerLines, Alike}
+use Rattle.life.specs.Lives.{look}
+use Rattle.book.specs.Book.{Book, empty_book, Call, AddEntity, AddContract, NameFile, Identify, Withdraw, Close, Judge, LookUp, Total, Answer, verdict, answered, answer, after, answers, end}
+use Rattle.book.specs.Laws.{log, survivors, Taken, subject, EveryLineAccepted, FewerLines}
 use Rattle.book.proofs.Survivors.{survivors_law}
 use Rattle.book.proofs.Tidy.{tidy_law}
 use Rattle.measure.specs.Totals.{total_of}
-use Rattle.calls.specs.Follows.{book_after, Agrees, Follows, book_total, Ran}
+use Rattle.calls.specs.Follows.{Agrees, Ran}
 use Rattle.resends.specs.Resends.{LineAccepted, LinesAccepted, Resends}
 
 taken_line : (b : Book) (c : Call) → Taken (subject b.contracts c) (verdict b c) → LineAccepted c (answer b c)

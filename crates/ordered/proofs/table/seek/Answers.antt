@@ -1,4 +1,4 @@
-use Rattle.std.proofs.Common.{◌-◌, arith}
+use Rattle.std.proofs.Common.{arith}
 use Rattle.life.specs.Keys.{rank}
 use Rattle.ordered.proofs.Rows.{lower, upper, hit}
 use Rattle.ordered.proofs.table.seek.Goals as goal

@@ -1,4 +1,4 @@
-use Rattle.std.proofs.Common.{sym, refl, ap, ◌∙◌}
+use Rattle.std.proofs.Common.{sym, ap, ◌∙◌}
 use Rattle.contract.specs.Held.{contracts_of}
 use Rattle.calls.specs.Said.{answer_said}
 use Rattle.resends.proofs.Lines.{refused_line, accepted_line, no_claim}

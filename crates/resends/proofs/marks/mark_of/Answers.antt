@@ -1,7 +1,7 @@
-use Rattle.std.proofs.Common.{◌≡◌, sym, ap, ◌∙◌, subst}
+use Rattle.std.proofs.Common.{sym, ap, ◌∙◌, subst}
 use Rattle.contract.specs.Held.{contracts_of}
 use Rattle.book.specs.Book.{answer}
-use Rattle.calls.specs.Said.{call_said, answer_said}
+use Rattle.calls.specs.Said.{call_said}
 use Rattle.resends.specs.Marks.{mark_parts, MarksCall}
 use Rattle.resends.proofs.Lines.{other_call, judged_call}
 use Rattle.resends.proofs.marks.mark_of.Goals as goal

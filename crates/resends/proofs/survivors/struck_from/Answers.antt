@@ -1,4 +1,4 @@
-use Rattle.std.proofs.Common.{◌%◌, ◌≤◌, length, get_or, sym, ap, ◌∙◌, subst}
+use Rattle.std.proofs.Common.{◌%◌, ◌≤◌, length, get_or, sym, subst}
 use lib.ListN.{length-map}
 use Rattle.life.specs.Parts.{key_parts}
 use Rattle.resends.specs.Marks.{mark_parts, marks_in, Reaches}

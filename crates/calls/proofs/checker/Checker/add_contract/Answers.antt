@@ -1,6 +1,6 @@
 use Rattle.contract.specs.Held.{contracts_of}
 use Rattle.book.specs.Book.{AddContract}
-use Rattle.calls.specs.Held.{book_in, total_in}
+use Rattle.calls.specs.Held.{book_in}
 use Rattle.calls.specs.Said.{contract_answer}
 use Rattle.calls.proofs.Checkers.{continues}
 use Rattle.calls.proofs.Moves.{contract_step}

@@ -1,6 +1,6 @@
 use Rattle.filing.specs.Known.{known}
 use Rattle.book.specs.Book.{AddEntity}
-use Rattle.calls.specs.Held.{book_in, total_in}
+use Rattle.calls.specs.Held.{book_in}
 use Rattle.calls.specs.Said.{entity_answer}
 use Rattle.calls.proofs.Checkers.{continues}
 use Rattle.calls.proofs.Moves.{entity_step}

@@ -1,6 +1,6 @@
-use Rattle.std.proofs.Common.{◌≡◌, sym, ap, ◌∙◌, subst}
+use Rattle.std.proofs.Common.{sym, ap, ◌∙◌, subst}
 use Rattle.book.specs.Book.{Judge, Total, Accepted}
-use Rattle.calls.specs.Held.{book_in, total_in, Replies}
+use Rattle.calls.specs.Held.{book_in, Replies}
 use Rattle.calls.specs.Said.{call_said, answer_said, Answering, Totalling, judge_answer}
 use Rattle.calls.proofs.Checkers.{continues}
 use Rattle.calls.proofs.Moves.{total_step}

@@ -1,6 +1,6 @@
 use Rattle.files.specs.Held.{files_of}
 use Rattle.book.specs.Book.{Close}
-use Rattle.calls.specs.Held.{book_in, total_in}
+use Rattle.calls.specs.Held.{book_in}
 use Rattle.calls.specs.Said.{ending_answer}
 use Rattle.calls.proofs.Checkers.{continues}
 use Rattle.calls.proofs.Moves.{close_step}

@@ -1,6 +1,6 @@
 use Rattle.std.proofs.Common.{subst}
 use Rattle.book.specs.Book.{Judge}
-use Rattle.calls.specs.Held.{book_in, total_in}
+use Rattle.calls.specs.Held.{book_in}
 use Rattle.calls.specs.Said.{judge_answer}
 use Rattle.calls.specs.Steps.{Step}
 use Rattle.calls.proofs.Checkers.{continues}

@@ -1,5 +1,5 @@
 use Rattle.files.specs.Held.{files_of}
-use Rattle.calls.specs.Held.{book_in, total_in}
+use Rattle.calls.specs.Held.{book_in}
 use Rattle.calls.proofs.Judging.{counted_step}
 use Rattle.calls.proofs.checker.Checker.judge_at.Goals as goal
 

@@ -1,7 +1,7 @@
 use Rattle.std.proofs.Common.{Ok, Err, sym, refl, ap, ◌∙◌, subst}
 use Rattle.std.proofs.lemmas.Result.{err_from_is_err_and}
 use Rattle.book.specs.Book.{LookUp}
-use Rattle.calls.specs.Held.{book_in, total_in, Continues}
+use Rattle.calls.specs.Held.{book_in, Continues}
 use Rattle.calls.specs.Said.{finding_answer}
 use Rattle.calls.proofs.Checkers.{continues}
 use Rattle.calls.proofs.Moves.{look_step}

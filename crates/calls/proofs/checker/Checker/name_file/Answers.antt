@@ -1,9 +1,9 @@
-use Rattle.std.proofs.Common.{◌≡◌, false, cond, sym, ap, ◌∙◌, subst}
+use Rattle.std.proofs.Common.{cond, sym, ap, ◌∙◌, subst}
 use Rattle.files.specs.Files.{named_in}
 use Rattle.files.specs.Held.{files_of}
 use Rattle.book.specs.Book.{with_files, NameFile}
 use Rattle.calls.specs.Follows.{Follows}
-use Rattle.calls.specs.Held.{book_in, total_in}
+use Rattle.calls.specs.Held.{book_in}
 use Rattle.calls.specs.Said.{naming_answer}
 use Rattle.calls.proofs.Checkers.{continues}
 use Rattle.calls.proofs.Moves.{naming_step}

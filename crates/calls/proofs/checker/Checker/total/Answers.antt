@@ -1,6 +1,6 @@
 use Rattle.std.proofs.Common.{◌∙◌}
 use Rattle.book.specs.Book.{Total, Accepted}
-use Rattle.calls.specs.Held.{book_in, total_in}
+use Rattle.calls.specs.Held.{book_in}
 use Rattle.calls.proofs.Checkers.{continues}
 use Rattle.calls.proofs.Moves.{total_step}
 use Rattle.calls.proofs.checker.Checker.total.Goals as goal

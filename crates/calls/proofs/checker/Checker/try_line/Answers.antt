@@ -3,7 +3,7 @@ use Rattle.text.specs.Bytes.{start}
 use Rattle.text.specs.Rows.{fields}
 use Rattle.register.specs.Faults.{act_number, act_field}
 use Rattle.book.specs.Book.{Refused}
-use Rattle.calls.specs.Held.{book_in, total_in}
+use Rattle.calls.specs.Held.{book_in}
 use Rattle.calls.specs.Steps.{Tried}
 use Rattle.calls.proofs.Judging.{file_refused, text_refused, lives_decide}
 use Rattle.calls.proofs.checker.Checker.try_line.Goals as goal

@@ -1,6 +1,6 @@
 use Rattle.std.proofs.Common.{vec_items, sym, refl, ap, ◌∙◌}
 use Rattle.calls.specs.declared.answer.Answer.TheVariants.{Accepted}
-use Rattle.calls.specs.Held.{book_in, total_in}
+use Rattle.calls.specs.Held.{book_in}
 use Rattle.calls.specs.Said.{call_said, reply_said}
 use Rattle.calls.proofs.Running.{goes_answered, goes_totalled}
 use Rattle.calls.proofs.completed.CompletedRun.step.Goals as goal

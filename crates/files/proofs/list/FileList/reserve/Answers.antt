@@ -1,4 +1,4 @@
-use Rattle.std.proofs.Common.{map, ap, ◌∙◌, arith}
+use Rattle.std.proofs.Common.{map, ap, arith}
 use Rattle.std.proofs.lemmas.List.{length-map}
 use Rattle.files.specs.Held.{as_file}
 use Rattle.files.proofs.Places.{reserved}

@@ -1,4 +1,4 @@
-use Rattle.std.proofs.Common.{◌≡◌, true, false, cond, [], ◌∷◌, Some, None, sym, refl, ap, ◌∙◌}
+use Rattle.std.proofs.Common.{true, false, cond, [], ◌∷◌, Some, None, sym, refl, ap, ◌∙◌}
 use Rattle.life.specs.Lives.{plain, look, Same}
 use Rattle.life.specs.Parts.{key_parts, life_parts}
 use Rattle.life.proofs.Lives.{unique_from}

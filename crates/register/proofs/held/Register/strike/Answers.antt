@@ -1,4 +1,4 @@
-use Rattle.std.proofs.Common.{◌≡◌, Some, sym, refl}
+use Rattle.std.proofs.Common.{Some, sym, refl}
 use Rattle.life.specs.Lives.{plain, Same, erase}
 use Rattle.life.specs.Parts.{key_parts}
 use Rattle.life.proofs.Lives.{unique_erase}
