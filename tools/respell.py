@@ -126,13 +126,12 @@ def turned(path, names, own):
     here.update(given_names(text))
     out = []
     for line in text.split("\n"):
+        end = len(line)
         if path.endswith(".rt"):
             cut = re.search(r"(^|\s)//", line)
-            end = cut.start() if cut else len(line)
-            pieces = re.split(r'("(?:[^"\\]|\\.)*")', line[:end])
-            line = "".join(p if p.startswith('"') else renamed(p, here) for p in pieces) + line[end:]
-        else:
-            line = renamed(line, here)
+            end = cut.start() if cut else end
+        pieces = re.split(r'("(?:[^"\\]|\\.)*")', line[:end])
+        line = "".join(p if p.startswith('"') else renamed(p, here) for p in pieces) + line[end:]
         line = re.sub("\u00ab([a-z_][a-z0-9_]*)\u00bb", lambda m: m.group(0) if m.group(1) in RESERVED else m.group(1), line)
         out.append(line)
     return text, "\n".join(out)
