@@ -1,4 +1,4 @@
-pub mod Digits
+pub mod Hexadecimals
 pub mod Puts
 pub mod Reports
 pub mod Writes

@@ -1,8 +1,8 @@
 // The text of the answer lines, written to the front of a buffer of the caller's.
 #![tactic(auto)]
 
-mod drafts;
 mod faults;
+mod fronts;
 mod lines;
 mod positions;
 

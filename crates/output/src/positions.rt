@@ -4,7 +4,8 @@ ghost use Rattle.output.specs.Buffers.{Wrote};
 ghost use Rattle.output.specs.Positions.{position_text, positions_text};
 
 use crate::faults::OutputFault;
-use crate::lines::{AnswerLine, FRONT, put_position};
+use crate::fronts;
+use crate::lines::AnswerLine;
 
 // Writes a line for each sum other than zero, where the sum at index k is that of contract k.
 pub fn write_positions(out: &mut [u8], sums: &[i64]) -> Result<usize, OutputFault>
@@ -42,8 +43,8 @@ fn position_length(contract: usize, sum: i64) -> usize
     if sum == 0 {
         return 0;
     }
-    let mut front = [0u8; FRONT];
-    put_position(&mut front, contract, sum) + 1
+
+    fronts::position(contract, sum).len() + 1
 }
 
 // Writes the line of a sum, and for zero nothing.

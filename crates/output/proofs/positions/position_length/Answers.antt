@@ -13,4 +13,4 @@ returns c =
     let words : List ℕ = 84 ∷ 32 ∷ (decimal c.args.contract ++ (32 ∷ signed_decimal z)) in
     let same = ap (λ y. length (84 ∷ 32 ∷ (decimal c.args.contract ++ (32 ∷ signed_decimal y)))) (to_z-of_z w64 z c.ranges.sum) in
     let text = ap length (position_some c.args.contract z c.if-sum-eq0.false) in
-    omega (arith, c.put_position.ensures.put.ends, same, text, length-append words (10 ∷ []))
+    omega (arith, ap length c.position.ensures, same, text, length-append words (10 ∷ []))

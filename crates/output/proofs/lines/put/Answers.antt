@@ -1,6 +1,6 @@
 use Rattle.std.proofs.Common.{rules}
 use Rattle.std.proofs.lemmas.Slice.{overwrites}
-use Rattle.output.proofs.drafts.put.Goals as goal
+use Rattle.output.proofs.lines.put.Goals as goal
 
 pub returns : goal.returns
 returns c = search (rules, overwrites)
