@@ -3,5 +3,4 @@ pub mod Cut
 pub mod Entities
 pub mod Faults
 pub mod Files
-pub mod Known
 pub mod Names

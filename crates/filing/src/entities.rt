@@ -6,7 +6,6 @@ ghost use Rattle.text.specs.Rows.{first_fit};
 ghost use Rattle.text.specs.Texts.{text_in};
 ghost use Rattle.filing.specs.Entities.{entity_rows, added};
 ghost use Rattle.filing.specs.Faults.{entity_number as number_of, refused_by};
-ghost use Rattle.filing.specs.Known.{known};
 
 use crate::entity_list::EntityList;
 use std::alloc::{AllocError, Global};
@@ -49,7 +48,7 @@ fn code_of(text: &[u8]) -> Option<Text<12>>
 impl EntityList {
     // A list with no entity, and with room for all that it may have.
     pub fn new(heap: Global) -> Result<EntityList, AllocError>
-        ensures { IfOk result (λ list. known list ≡ []) }
+        ensures { IfOk result (λ list. list ≡ []) }
     {
         let codes = Vec::with_capacity(heap, MOST_ENTITIES)?;
         Ok(EntityList { codes })
@@ -57,12 +56,10 @@ impl EntityList {
 
     // Adds an entity by its ACER code.
     pub fn add(&mut self, code: &[u8]) -> Result<(), EntityFault>
-        ensures told { refused_by result ≡ first_fit entity_rows (known self.old, code.now) }
-        ensures list { known self.new ≡ added (known self.old) code.now }
+        ensures told { refused_by result ≡ first_fit entity_rows (self.old, code.now) }
+        ensures list { self.new ≡ added self.old code.now }
     {
-        let Some(text) = code_of(code) else {
-            return Err(EntityFault::Form);
-        };
+        let text = code_of(code).ok_or(EntityFault::Form)?;
         if self.knows(code) {
             return Err(EntityFault::Known);
         }
@@ -75,7 +72,7 @@ impl EntityList {
 
     // Whether an entity is known.
     pub fn knows(&self, code: &[u8]) -> bool
-        ensures { result ≡ among (known self.now) code.now }
+        ensures { result ≡ among self.now code.now }
     {
         is_among(self.codes.as_slice(), code)
     }

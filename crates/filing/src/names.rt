@@ -71,21 +71,17 @@ fn is_schema(text: &[u8]) -> bool
 fn is_version(text: &[u8]) -> bool
     ensures { result ≡ a_version text.now }
 {
-    match text {
-        [b'V', b'0'..=b'9'] => true,
-        _ => false,
-    }
+    matches!(text, [b'V', b'0'..=b'9'])
 }
 
 // One to nine digits and `.xml`.
 fn is_last(text: &[u8]) -> bool
     ensures { result ≡ a_last text.now }
 {
-    if text.len() < 5 || text.len() > 13 {
+    let Some(digits) = text.strip_suffix(b".xml") else {
         return false;
-    }
-    let n = text.len() - 4;
-    all_of::<Digits>(&text[0..n]) && same_bytes(&text[n..], b".xml")
+    };
+    1 <= digits.len() && digits.len() <= 9 && all_of::<Digits>(digits)
 }
 
 // Whether the parts around the code have their forms.
@@ -120,8 +116,5 @@ pub fn read_name<'a>(name: &'a [u8]) -> Result<EntityCode<'a>, NameFault>
     ensures told { naming_in result ≡ naming name.now }
     ensures part { IfOk result (λ code. code.text.now ≡ take (length code.text.now) (drop code.at name.now)) }
 {
-    match code_in(name) {
-        Some(code) => Ok(code),
-        None => Err(NameFault::Form),
-    }
+    code_in(name).ok_or(NameFault::Form)
 }

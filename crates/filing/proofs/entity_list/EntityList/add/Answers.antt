@@ -1,30 +1,20 @@
-use Rattle.std.proofs.Common.{◌≡◌, true, false, leb, length, ◌∙◌, arith}
+use Rattle.std.proofs.Common.{◌≡◌, false, leb, [], ◌∷◌, ◌++◌, length, sym, ap, ◌∙◌, arith}
 use Rattle.std.proofs.lemmas.List.{length-map}
 use Rattle.std.proofs.lemmas.Bool.Decides.{nat_tests}
-use Rattle.text.specs.Texts.{text_of}
+use Rattle.text.specs.Texts.{text_of, text_in}
 use Rattle.text.proofs.Amongs.{texts_push}
-use Rattle.filing.specs.Known.{known}
-use Rattle.filing.proofs.Adding.{says_itself, fitting, leaves}
+use Rattle.filing.proofs.Adding.{says_itself, leaves}
 use Rattle.filing.proofs.entity_list.EntityList.add.Goals as goal
 
-pub returns-then-len-ge-MOST_ENTITIES : goal.returns-then-len-ge-MOST_ENTITIES
-returns-then-len-ge-MOST_ENTITIES c =
-    let es = known c.args.self.now in
-    let l = length-map c.args.self.now.codes.items text_of in
-    let full : leb 32 (length es) ≡ true = grind (arith, nat_tests) in
-    record {
-      told = fitting es c.args.code.now _ _ _ c.in-Some.ensures c.if-knows.ensures full;
-      list = leaves es c.args.code.now _ _ _ c.in-Some.ensures c.if-knows.ensures full;
-    }
-
-pub returns : goal.returns
-returns c =
-    let es = known c.args.self.now in
-    let l = length-map c.args.self.now.codes.items text_of in
+pub returns-clause-list : goal.returns-clause-list
+returns-clause-list c =
+    let es = c.args.self.now in
+    let code = c.args.code.now in
+    let codes = c.self.inside.codes.items in
+    let l = length-map codes text_of in
+    let e = ap length c.self.view_is in
     let room : leb 32 (length es) ≡ false = grind (arith, nat_tests) in
-    record {
-      told = fitting es c.args.code.now _ _ _ c.in-Some.ensures c.if-knows.ensures room;
-      list =
-          texts_push c.args.self.now.codes.items _ c.in-Some.text c.args.code.now c.push_reserved.ensures.items (says_itself c.args.code.now _ c.in-Some.ensures)
-          ∙ leaves es c.args.code.now _ _ _ c.in-Some.ensures c.if-knows.ensures room;
-    }
+    let formed = sym (ap text_in c.in_ok-text.ensures.ok_part) ∙ c.code_of.ensures in
+    texts_push codes _ c.in_ok-text.text code c.push_reserved.ensures.items (says_itself code _ formed)
+    ∙ ap (λ ts. ts ++ code ∷ []) c.self.view_is
+    ∙ leaves es code _ _ _ formed c.if-knows.ensures room
