@@ -1,2 +1,1 @@
 pub mod NameCodes
-pub mod Places

@@ -1,13 +1,11 @@
 -- The entity code of a file's name has twelve bytes, so that a bounded text holds it; and a file more.
-use Rattle.std.proofs.Common.{◌≡◌, ℕ, Bool, true, false, cond, not, List, [], ◌∷◌, ◌++◌, length, is_some, Some, None, Ok, Option, Result, sym, refl, ap, ◌∙◌, arith}
+use Rattle.std.proofs.Common.{◌≡◌, ℕ, Bool, true, false, cond, not, List, [], ◌∷◌, length, Some, None, Ok, Option, Result, sym, refl, ap, ◌∙◌, arith}
 use Rattle.text.specs.Bytes.{Bytes, pieces, value, has_form}
 use Rattle.text.specs.Forms.{code_form}
 use Rattle.text.specs.Rows.{Refusal, first_fit}
 use Rattle.text.proofs.Tables.{none_fitted}
 use Rattle.filing.specs.Names.{code_in, name_form, code_offset, naming, naming_rows}
 use Rattle.filing.proofs.Adding.{twelve, says_itself}
-use Rattle.filing.specs.Files.{File, named_file}
-use Rattle.files.specs.Files.{named_in}
 
 chosen : (t : Bool) (d c : Bytes) → cond t (code_form d) None ≡ Some c → length c ≡ 12
 chosen true d c e = ap length (says_itself d c (sym e)) ∙ twelve d c (sym e)
@@ -41,7 +39,3 @@ is_read bs c at e =
     go : (o : Option Bytes) → name_form bs ≡ o → cond {A = Option (ℕ × ℕ)} (not (has_form o)) (Some (64, 0)) None ≡ None → c ≡ value [] o → length c ≡ 12
     go None n h p = absurd (let z : ◌≡◌ {A = ℕ} 0 1 = cc in omega arith)
     go (Some d) n h p = ap length p ∙ twelve_named bs d n
-
--- the files after a name that no row fits
-pub one_more : (fs : List File) (bs : Bytes) → first_fit naming_rows bs ≡ None → fs ++ named_file (value [] (name_form bs)) ∷ [] ≡ named_in fs bs
-one_more fs bs e = sym (ap (λ o. cond (is_some o) fs (fs ++ named_file (value [] (name_form bs)) ∷ [])) e)

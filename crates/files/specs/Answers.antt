@@ -7,7 +7,8 @@ use Rattle.files.specs.declared.faults.NamingError.TheVariants.{Fault, NoMemory}
 use Rattle.files.specs.declared.faults.PlaceFault.{PlaceFault}
 use Rattle.files.specs.declared.faults.TakeFault.{TakeFault}
 use Rattle.files.specs.declared.receipt.Receipt.{Receipt}
-use Rattle.files.specs.declared.named_file.NamedFile.{NamedFile}
+use Rattle.files.specs.declared.token.FileToken.{FileToken}
+use Rattle.files.specs.declared.token.OnlyNamed.{OnlyNamed}
 use Rattle.files.specs.Faults.{identify_number, place_number, take_number}
 use Rattle.filing.specs.Files.{File}
 
@@ -31,7 +32,7 @@ identify_refusal (Ok v) = None
 identify_refusal (Err e) = Some (identify_number e, 0)
 
 -- the same where a refusal hands the token back
-abbrev pub token_refusal : {V : Type 0} → Result V (IdentifyFault × NamedFile) → Option (ℕ × ℕ)
+abbrev pub token_refusal : {V : Type 0} → Result V (IdentifyFault × FileToken OnlyNamed) → Option (ℕ × ℕ)
 token_refusal (Ok v) = None
 token_refusal (Err e) = Some (identify_number e.0, 0)
 

@@ -1,8 +1,7 @@
 -- The files that a list holds, as plain data.
-use Rattle.std.specs.Prelude.{ℕ, ◌+◌, List, map, vec_items, vec_capacity}
+use Rattle.std.specs.Prelude.{ℕ, ◌+◌, List}
 use Rattle.text.specs.Texts.{text_of}
 use Rattle.files.specs.declared.held.HeldFile.{HeldFile}
-use Rattle.files.specs.declared.list.FileList.{FileList}
 use Rattle.files.specs.declared.stage.Stage.{Stage}
 use Rattle.files.specs.declared.stage.Stage.TheVariants as held
 use Rattle.filing.specs.Files as filing
@@ -24,10 +23,11 @@ as_file f = record {
   refused = f.refused;
 }
 
--- in the order of naming
-abbrev pub files_of : FileList → List File
-files_of list = map as_file (vec_items list.files)
+-- what a list of files is: the files in the order of naming, and how many have a place reserved
+pub record Filed : Type 0 where
+  pub files : List File
+  pub places : ℕ
 
--- how many files have a place reserved
-abbrev pub places : FileList → ℕ
-places list = vec_capacity list.files
+-- other files in the same places
+abbrev pub with_files : List File → Filed → Filed
+with_files files filed = record { files = files; places = filed.places }

@@ -2,8 +2,8 @@
 ghost use Rattle.std.specs.Prelude.{◌≡◌};
 ghost use Rattle.text.specs.Rows.{first_fit};
 ghost use Rattle.text.specs.Texts.{text_of};
-ghost use Rattle.filing.specs.Known.{known};
 ghost use Rattle.filing.specs.Files.{named_file, at_stage, identifying_rows, withdrawing_rows, closing_rows, taking_rows};
+ghost use Rattle.files.specs.declared.stage.Stage.TheVariants.{Named, Identified};
 ghost use Rattle.files.specs.Files.{no_file, counted};
 ghost use Rattle.files.specs.Held.{as_file, stage_of};
 ghost use Rattle.files.specs.Answers.{identify_refusal, place_refusal, take_refusal, receipt_of};
@@ -47,12 +47,9 @@ impl HeldFile {
     pub(crate) fn at_stage(&self, stage: Stage) -> HeldFile
         ensures { as_file result ≡ at_stage (stage_of stage) (as_file self.now) }
     {
-        HeldFile {
-            stage,
-            entity: self.entity,
-            accepted: self.accepted,
-            refused: self.refused,
-        }
+        let mut file = *self;
+        file.stage = stage;
+        file
     }
 
     // Its counts.
@@ -72,7 +69,7 @@ impl HeldFile {
         entities: &EntityList,
         code: &[u8],
     ) -> Result<(), IdentifyFault>
-        ensures { identify_refusal result ≡ first_fit identifying_rows (known entities.now, as_file self.now, code.now) }
+        ensures { identify_refusal result ≡ first_fit identifying_rows (entities.now, as_file self.now, code.now) }
     {
         let Stage::Named = self.stage else {
             return Err(IdentifyFault::OutOfPlace);
@@ -86,23 +83,15 @@ impl HeldFile {
         Ok(())
     }
 
-    // Whether it may be withdrawn.
-    pub(crate) fn allows_withdrawing(&self) -> Result<(), PlaceFault>
-        ensures { place_refusal result ≡ first_fit withdrawing_rows (as_file self.now) }
+    // Whether it stands at a stage: withdrawing asks for a file that is only named, closing for an identified one.
+    pub(crate) fn stands_at(&self, stage: Stage) -> Result<(), PlaceFault>
+        ensures withdrawing { stage ≡ Named → place_refusal result ≡ first_fit withdrawing_rows (as_file self.now) }
+        ensures closing { stage ≡ Identified → place_refusal result ≡ first_fit closing_rows (as_file self.now) }
     {
-        match self.stage {
-            Stage::Named => Ok(()),
-            _ => Err(PlaceFault::OutOfPlace),
-        }
-    }
-
-    // Whether it may be closed.
-    pub(crate) fn allows_closing(&self) -> Result<(), PlaceFault>
-        ensures { place_refusal result ≡ first_fit closing_rows (as_file self.now) }
-    {
-        match self.stage {
-            Stage::Identified => Ok(()),
-            _ => Err(PlaceFault::OutOfPlace),
+        if self.stage == stage {
+            Ok(())
+        } else {
+            Err(PlaceFault::OutOfPlace)
         }
     }
 
@@ -123,23 +112,12 @@ impl HeldFile {
     pub(crate) fn with_line(&self, accepted: bool) -> HeldFile
         ensures { as_file result ≡ counted accepted (as_file self.now) }
     {
-        let Ok(()) = self.takes() else {
-            return *self;
-        };
-        if accepted {
-            HeldFile {
-                stage: self.stage,
-                entity: self.entity,
-                accepted: self.accepted + 1,
-                refused: self.refused,
-            }
-        } else {
-            HeldFile {
-                stage: self.stage,
-                entity: self.entity,
-                accepted: self.accepted,
-                refused: self.refused + 1,
-            }
+        let mut file = *self;
+        match (self.takes(), accepted) {
+            (Ok(()), true) => file.accepted += 1,
+            (Ok(()), false) => file.refused += 1,
+            (Err(_), _) => {}
         }
+        file
     }
 }

@@ -1,11 +1,10 @@
 // The list of files, and calls on a file by its number.
 ghost use Rattle.std.specs.Prelude.{◌≡◌, ◌+◌, ◌≤◌, [], length, IfOk, OnOk, slice_set};
 ghost use Rattle.text.specs.Rows.{first_fit};
-ghost use Rattle.filing.specs.Known.{known};
 ghost use Rattle.files.specs.Answers.{identify_refusal, place_refusal, take_refusal, receipt_of};
 ghost use Rattle.filing.specs.Files.{identifying_rows, withdrawing_rows, closing_rows, taking_rows};
 ghost use Rattle.files.specs.Files.{counted, file_of, identified_in, withdrawn_in, closed_in};
-ghost use Rattle.files.specs.Held.{as_file, files_of, places};
+ghost use Rattle.files.specs.Held.{as_file, with_files};
 
 use crate::faults::{IdentifyFault, PlaceFault, TakeFault};
 use crate::held::HeldFile;
@@ -18,7 +17,7 @@ use std::alloc::{AllocError, Global};
 impl FileList {
     // A list with no file.
     pub fn new(heap: Global) -> FileList
-        ensures { files_of result ≡ [] }
+        ensures { result.files ≡ [] }
     {
         FileList {
             files: Vec::new(heap),
@@ -27,23 +26,23 @@ impl FileList {
 
     // How many files were named.
     pub fn count(&self) -> usize
-        ensures { result ≡ length (files_of self.now) }
+        ensures { result ≡ length self.now.files }
     {
         self.files.as_slice().len()
     }
 
     // Makes places for more files, so that naming them wants no memory.
     pub fn reserve(&mut self, more: usize) -> Result<(), AllocError>
-        ensures list { files_of self.new ≡ files_of self.old }
-        ensures room { OnOk result (length (files_of self.old) + more ≤ places self.new) }
-        ensures kept { places self.old ≤ places self.new }
+        ensures list { self.new.files ≡ self.old.files }
+        ensures room { OnOk result (length self.old.files + more ≤ self.new.places) }
+        ensures kept { self.old.places ≤ self.new.places }
     {
         self.files.reserve(more)
     }
 
     // The file of a number.
     fn file(&self, number: usize) -> HeldFile
-        ensures { as_file result ≡ file_of (files_of self.now) number }
+        ensures { as_file result ≡ file_of self.now.files number }
     {
         let files = self.files.as_slice();
         if number < files.len() {
@@ -55,8 +54,7 @@ impl FileList {
 
     // Puts a file in the place of a number, if there is one.
     fn put(&mut self, number: usize, file: HeldFile)
-        ensures list { files_of self.new ≡ slice_set (files_of self.old) number (as_file file) }
-        ensures kept { places self.new ≡ places self.old }
+        ensures { self.new ≡ with_files (slice_set self.old.files number (as_file file)) self.old }
     {
         if number < self.files.len() {
             self.files[number] = file;
@@ -70,9 +68,8 @@ impl FileList {
         entities: &EntityList,
         code: &[u8],
     ) -> Result<(), IdentifyFault>
-        ensures told { identify_refusal result ≡ first_fit identifying_rows (known entities.now, file_of (files_of self.old) number, code.now) }
-        ensures list { files_of self.new ≡ identified_in (known entities.now) (files_of self.old) number code.now }
-        ensures kept { places self.new ≡ places self.old }
+        ensures told { identify_refusal result ≡ first_fit identifying_rows (entities.now, file_of self.old.files number, code.now) }
+        ensures list { self.new ≡ with_files (identified_in entities.now self.old.files number code.now) self.old }
     {
         let file = self.file(number);
         file.allows_identifying(entities, code)?;
@@ -80,43 +77,40 @@ impl FileList {
         Ok(())
     }
 
-    // Ends a file that is only named, and gives its counts.
+    // Ends a file that is only named, and gives its counts. Written apart from closing: a function over the stage would repeat each clause for each stage.
     pub fn withdraw_at(&mut self, number: usize) -> Result<Receipt, PlaceFault>
-        ensures told { place_refusal result ≡ first_fit withdrawing_rows (file_of (files_of self.old) number) }
-        ensures counts { IfOk result (λ receipt. receipt ≡ receipt_of (file_of (files_of self.old) number)) }
-        ensures list { files_of self.new ≡ withdrawn_in (files_of self.old) number }
-        ensures kept { places self.new ≡ places self.old }
+        ensures told { place_refusal result ≡ first_fit withdrawing_rows (file_of self.old.files number) }
+        ensures counts { IfOk result (λ receipt. receipt ≡ receipt_of (file_of self.old.files number)) }
+        ensures list { self.new ≡ with_files (withdrawn_in self.old.files number) self.old }
     {
         let file = self.file(number);
-        file.allows_withdrawing()?;
+        file.stands_at(Stage::Named)?;
         self.put(number, file.at_stage(Stage::Ended));
         Ok(file.receipt())
     }
 
     // Ends a file that is identified, and gives its counts.
     pub fn close_at(&mut self, number: usize) -> Result<Receipt, PlaceFault>
-        ensures told { place_refusal result ≡ first_fit closing_rows (file_of (files_of self.old) number) }
-        ensures counts { IfOk result (λ receipt. receipt ≡ receipt_of (file_of (files_of self.old) number)) }
-        ensures list { files_of self.new ≡ closed_in (files_of self.old) number }
-        ensures kept { places self.new ≡ places self.old }
+        ensures told { place_refusal result ≡ first_fit closing_rows (file_of self.old.files number) }
+        ensures counts { IfOk result (λ receipt. receipt ≡ receipt_of (file_of self.old.files number)) }
+        ensures list { self.new ≡ with_files (closed_in self.old.files number) self.old }
     {
         let file = self.file(number);
-        file.allows_closing()?;
+        file.stands_at(Stage::Identified)?;
         self.put(number, file.at_stage(Stage::Ended));
         Ok(file.receipt())
     }
 
     // Whether a file takes a line.
     pub fn takes(&self, number: usize) -> Result<(), TakeFault>
-        ensures { take_refusal result ≡ first_fit taking_rows (file_of (files_of self.now) number) }
+        ensures { take_refusal result ≡ first_fit taking_rows (file_of self.now.files number) }
     {
         self.file(number).takes()
     }
 
     // Counts a line judged in a file, where the file takes one.
     pub fn count_line(&mut self, number: usize, accepted: bool)
-        ensures list { files_of self.new ≡ slice_set (files_of self.old) number (counted accepted (file_of (files_of self.old) number)) }
-        ensures kept { places self.new ≡ places self.old }
+        ensures { self.new ≡ with_files (slice_set self.old.files number (counted accepted (file_of self.old.files number))) self.old }
     {
         let file = self.file(number);
         self.put(number, file.with_line(accepted));

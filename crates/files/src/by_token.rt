@@ -1,17 +1,15 @@
 // Calls on a file by its token, which is given up, or handed back by a refusal to identify.
 ghost use Rattle.std.specs.Prelude.{◌≡◌, IfOk, MatchResult};
 ghost use Rattle.text.specs.Rows.{first_fit};
-ghost use Rattle.filing.specs.Known.{known};
 ghost use Rattle.files.specs.Answers.{token_refusal, place_refusal, receipt_of};
 ghost use Rattle.filing.specs.Files.{identifying_rows, withdrawing_rows, closing_rows};
 ghost use Rattle.files.specs.Files.{file_of, identified_in, withdrawn_in, closed_in};
-ghost use Rattle.files.specs.Held.{files_of, places};
+ghost use Rattle.files.specs.Held.{with_files};
 
 use crate::faults::{IdentifyFault, PlaceFault};
-use crate::identified_file::IdentifiedFile;
 use crate::list::FileList;
-use crate::named_file::NamedFile;
 use crate::receipt::Receipt;
+use crate::token::{IdentifiedFile, NamedFile};
 use filing::EntityList;
 
 impl FileList {
@@ -22,10 +20,9 @@ impl FileList {
         entities: &EntityList,
         code: &[u8],
     ) -> Result<IdentifiedFile, (IdentifyFault, NamedFile)>
-        ensures told { token_refusal result ≡ first_fit identifying_rows (known entities.now, file_of (files_of self.old) file.number, code.now) }
+        ensures told { token_refusal result ≡ first_fit identifying_rows (entities.now, file_of self.old.files file.number, code.now) }
         ensures token { MatchResult result (λ identified. identified.number ≡ file.number) (λ refusal. refusal.1 ≡ file) }
-        ensures list { files_of self.new ≡ identified_in (known entities.now) (files_of self.old) file.number code.now }
-        ensures kept { places self.new ≡ places self.old }
+        ensures list { self.new ≡ with_files (identified_in entities.now self.old.files file.number code.now) self.old }
     {
         match self.identify_at(file.number(), entities, code) {
             Ok(()) => Ok(file.into_identified()),
@@ -35,20 +32,18 @@ impl FileList {
 
     // Ends a file that is only named, and gives its counts.
     pub fn withdraw(&mut self, file: NamedFile) -> Result<Receipt, PlaceFault>
-        ensures told { place_refusal result ≡ first_fit withdrawing_rows (file_of (files_of self.old) file.number) }
-        ensures counts { IfOk result (λ receipt. receipt ≡ receipt_of (file_of (files_of self.old) file.number)) }
-        ensures list { files_of self.new ≡ withdrawn_in (files_of self.old) file.number }
-        ensures kept { places self.new ≡ places self.old }
+        ensures told { place_refusal result ≡ first_fit withdrawing_rows (file_of self.old.files file.number) }
+        ensures counts { IfOk result (λ receipt. receipt ≡ receipt_of (file_of self.old.files file.number)) }
+        ensures list { self.new ≡ with_files (withdrawn_in self.old.files file.number) self.old }
     {
         self.withdraw_at(file.into_number())
     }
 
     // Ends a file that is identified, and gives its counts.
     pub fn close(&mut self, file: IdentifiedFile) -> Result<Receipt, PlaceFault>
-        ensures told { place_refusal result ≡ first_fit closing_rows (file_of (files_of self.old) file.number) }
-        ensures counts { IfOk result (λ receipt. receipt ≡ receipt_of (file_of (files_of self.old) file.number)) }
-        ensures list { files_of self.new ≡ closed_in (files_of self.old) file.number }
-        ensures kept { places self.new ≡ places self.old }
+        ensures told { place_refusal result ≡ first_fit closing_rows (file_of self.old.files file.number) }
+        ensures counts { IfOk result (λ receipt. receipt ≡ receipt_of (file_of self.old.files file.number)) }
+        ensures list { self.new ≡ with_files (closed_in self.old.files file.number) self.old }
     {
         self.close_at(file.into_number())
     }

@@ -1,2 +1,1 @@
 pub mod Changes
-pub mod Rows

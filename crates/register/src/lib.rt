@@ -2,7 +2,8 @@
 #![tactic(auto)]
 
 mod faults;
-mod held;
+mod judging;
+mod register;
 
 pub use faults::ActFault;
-pub use held::Register;
+pub use register::Register;

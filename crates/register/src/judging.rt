@@ -1,0 +1,108 @@
+// Making a register, asking it, and doing an action to the life of a key.
+ghost use Rattle.std.specs.Prelude.{◌≡◌, [], ◌∷◌, length, if◌then◌else◌, Some, None, nat_le};
+ghost use Rattle.life.specs.Acts.{life_in};
+ghost use Rattle.life.specs.Lives.{look, Same, altered, erase};
+ghost use Rattle.life.specs.Parts.{LifeParts, key_parts, life_parts};
+ghost use Rattle.measure.specs.Totals.{total_of};
+ghost use Rattle.register.specs.Faults.{refused_by};
+ghost use Rattle.register.specs.Judged.{refusal, lives_after};
+
+use crate::faults::ActFault;
+use crate::register::Register;
+use life::{Key, Life, NoRoom, Outcome, Store, first};
+use measure::{Measure, come, go, replace};
+use text::Action;
+
+impl<'s, S: Store, M: Measure> Register<'s, S, M> {
+    // A register over an emptied store, with a total of zero.
+    pub fn new(store: &'s mut S) -> Register<'s, S, M>
+        ensures { result ≡ record { room = S.room store.old; lives = []; total = M.nil } }
+    {
+        store.empty();
+        Register {
+            store,
+            total: M::zero(),
+        }
+    }
+
+    // How many lives may be held.
+    pub fn capacity(&self) -> usize
+        ensures { result ≡ self.now.room }
+    {
+        self.store.capacity()
+    }
+
+    // The life of a key, if one stands.
+    pub fn find(&self, key: &Key) -> Option<Life>
+        ensures found { life_in result ≡ look (key_parts key.now) self.now.lives }
+        ensures sums { self.now.total ≡ total_of M.nil M.joined M.weight self.now.lives }
+    {
+        self.store.find(key)
+    }
+
+    // The total of the open lives.
+    pub fn total(&self) -> &M
+        ensures told { result.now ≡ self.now.total }
+        ensures sums { result.now ≡ total_of M.nil M.joined M.weight self.now.lives }
+    {
+        &self.total
+    }
+
+    // Does an action to the life of a key, as `told` by its line: time, quantity and price. A refused action changes no life.
+    pub fn judge(&mut self, key: &Key, action: Action, told: &Life) -> Result<(), ActFault>
+        ensures answers { refused_by result ≡ refusal self.old.room (key_parts key.now) action (life_parts told.now) self.old.lives }
+        ensures holds { Same self.new.lives (lives_after (refusal self.old.room (key_parts key.now) action (life_parts told.now) self.old.lives) (key_parts key.now) action (life_parts told.now) self.old.lives) }
+        ensures keeps { self.new.room ≡ self.old.room }
+        ensures sums { self.new.total ≡ total_of M.nil M.joined M.weight self.new.lives }
+    {
+        let Some(old) = self.find(key) else {
+            let life = first(action, told)?;
+            return self.enter(key, life);
+        };
+        let mut life = old;
+        match life.act(action, told)? {
+            Outcome::Stays => self.alter(key, &old, life),
+            Outcome::Ends => self.strike(key, &old),
+        }
+        Ok(())
+    }
+
+    // A life enters, if there is room.
+    fn enter(&mut self, key: &Key, life: Life) -> Result<(), ActFault>
+        requires { look (key_parts key.now) self.old.lives ≡ None }
+        ensures answers { refused_by result ≡ (if nat_le self.old.room (length self.old.lives) then Some (47, 0) else None) }
+        ensures holds { Same self.new.lives (if nat_le self.old.room (length self.old.lives) then self.old.lives else (key_parts key.now, life_parts life) ∷ self.old.lives) }
+        ensures keeps { self.new.room ≡ self.old.room }
+        ensures sums { self.new.total ≡ total_of M.nil M.joined M.weight self.new.lives }
+    {
+        match self.store.put(key, life) {
+            Ok(()) => {
+                come(&mut self.total, key, &life);
+                Ok(())
+            }
+            Err(NoRoom) => Err(ActFault::Full),
+        }
+    }
+
+    // The life of a key is altered, from `old` to `new`: a held key always has its place.
+    fn alter(&mut self, key: &Key, old: &Life, new: Life)
+        requires { look (key_parts key.now) self.old.lives ≡ Some (life_parts old.now) }
+        ensures holds { (f : LifeParts → LifeParts) → f (life_parts old.now) ≡ life_parts new → Same self.new.lives (altered (key_parts key.now) f self.old.lives) }
+        ensures keeps { self.new.room ≡ self.old.room }
+        ensures sums { self.new.total ≡ total_of M.nil M.joined M.weight self.new.lives }
+    {
+        let _ = self.store.put(key, new);
+        replace(&mut self.total, key, old, &new);
+    }
+
+    // The life of a key goes.
+    fn strike(&mut self, key: &Key, old: &Life)
+        requires { look (key_parts key.now) self.old.lives ≡ Some (life_parts old.now) }
+        ensures holds { Same self.new.lives (erase (key_parts key.now) self.old.lives) }
+        ensures keeps { self.new.room ≡ self.old.room }
+        ensures sums { self.new.total ≡ total_of M.nil M.joined M.weight self.new.lives }
+    {
+        self.store.remove(key);
+        go(&mut self.total, key, old);
+    }
+}

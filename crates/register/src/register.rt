@@ -1,0 +1,24 @@
+// A store of lives, and the total of what its open lives weigh.
+ghost use Rattle.std.specs.Prelude.{◌≡◌};
+ghost use Rattle.life.specs.Lives.{plain};
+ghost use Rattle.measure.specs.Totals.{total_of};
+ghost use Rattle.register.specs.Held.{Held};
+
+use life::Store;
+use measure::Measure;
+use std::marker::Model;
+
+#[derive(Drop)]
+pub struct Register<'s, S: Store, M: Measure> {
+    pub(crate) store: &'s mut S,
+    pub(crate) total: M,
+}
+
+// Clauses see its room, its lives in the order of the store, and their total, which is always the joined weights of the open ones.
+impl<'s, S: Store, M: Measure> Model for Register<'s, S, M> {
+    ghost Value = { Held M };
+
+    ghost view = { λ r. record { room = S.room r.store.now; lives = plain (S.pairs r.store.now); total = r.total } };
+
+    ghost invariant = { λ r. r.total ≡ total_of M.nil M.joined M.weight (plain (S.pairs r.store.now)) };
+}
