@@ -33,7 +33,7 @@ fn take_field<'a>(line: &'a [u8], place: &mut Place) -> &'a [u8]
 fn word<'a>(text: &'a [u8], at: usize) -> Part<'a>
     ensures { seen result ≡ as_word text.now at text.now }
 {
-    if text.len() == 0 {
+    if text.is_empty() {
         Part::Blank { at }
     } else {
         Part::Word { text, at }
@@ -125,9 +125,7 @@ impl<'a> Reader<'a> {
             back: Some(start),
         };
         let text = take_field(self.line, guard.place);
-        let Some(value) = said(text) else {
-            return Err(lacks_form(start));
-        };
+        let value = said(text).ok_or(lacks_form(start))?;
         guard.back = None;
         Ok(value)
     }
