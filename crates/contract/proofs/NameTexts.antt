@@ -19,15 +19,6 @@ pub first_and_rest : (ns : List Bytes) (t : Bytes) → Some t ≡ first_name ns 
 first_and_rest [] t e = absurd (let z : ◌≡◌ {A = ℕ} 0 1 = cc in omega arith)
 first_and_rest (n ∷ ns) t e = ap (λ x. x ∷ ns) (cc)
 
--- one text more that may stand twice: b says whether it stands among those after it
-pub twice_more : (ts : List (Text 32)) (i : ℕ) (x : Text 32) (u : Bytes) (b : Bool)
-    → i < length ts → x ≡ get_or ts i x → u ≡ text_of x → b ≡ among (texts_of (take (length ts - (i + 1)) (drop (i + 1) ts))) u
-    → repeats (texts_of (drop i ts)) ≡ (b || repeats (texts_of (drop (i + 1) ts)))
-twice_more ts i x u b l e f a =
-    at_drop_more (λ xs. repeats (texts_of xs)) ts i x l
-    ∙ ap (λ y. among (texts_of (drop (i + 1) ts)) (text_of y) || repeats (texts_of (drop (i + 1) ts))) (sym e)
-    ∙ ap (λ t. t || repeats (texts_of (drop (i + 1) ts))) (sym (a ∙ (λ j. among (texts_of (take_rest ts (i + 1) j)) (f j))))
-
 -- how many names a list has
 pub names_count : (ns : NameList) → length (names_of ns) ≡ ns.count
 names_count ns = length-map (take ns.count ns.texts) text_of ∙ length-take-le ns.count ns.texts (omega arith)

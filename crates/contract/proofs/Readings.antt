@@ -55,8 +55,7 @@ same_form (Some s) = refl
 
 pub style_value : (o : Option (Option ℕ)) (y : OptionStyle) → then o (λ s. Some (as_style s)) ≡ Some y → style_of y ≡ value None o
 style_value None y e = absurd (let z : ◌≡◌ {A = ℕ} 0 1 = cc in omega arith)
-style_value (Some None) y e = let n : as_style None ≡ y = cc in ap style_of (sym n)
-style_value (Some (Some b)) y e = let n : as_style (Some b) ≡ y = cc in ap style_of (sym n)
+style_value (Some s) y e = let n : as_style s ≡ y = cc in ap style_of (sym n)
 
 -- the row of the style, by the style as the code has it
 pub restyled : {V : Type 0} {bs : Bytes} {all : List (Row Bytes)} {v : V} {p : Place} {line : Bytes} {k n f : ℕ} {rows : List (Row Bytes)}

@@ -12,7 +12,6 @@ use Rattle.contract.specs.declared.held.HeldContract.{HeldContract}
 use Rattle.contract.specs.ContractList.{Contract, listed, needs_style, repeats, names_in, text_rows, listing_rows, contract_rows, offered, adding, added, number_of, index_names_of, due, settled_plainly}
 use Rattle.contract.specs.Faults.{contract_fault_number, contract_fault_field, contract_fault_offset, contract_refusal}
 use Rattle.contract.specs.Held.{contract_of, names_of, added_in}
-use Rattle.contract.specs.Styles.{style_of}
 use Rattle.contract.proofs.NameTexts.{names_count}
 
 -- ---- Checking a contract against those listed
@@ -22,7 +21,7 @@ row_found known plain twice full = cond known (Some (52, 1)) (cond plain (Some (
 
 pub checked : (cs : List Contract) (c : HeldContract) (known plain twice full : Bool)
     → known ≡ is_some (listed cs (text_of c.id))
-    → plain ≡ (needs_style c.kind && not (is_some (style_of c.style)))
+    → plain ≡ (needs_style c.kind && not (is_some c.style))
     → twice ≡ repeats (names_of c.names)
     → full ≡ (leb 63 (length cs) || ltb 255 (names_in cs + c.names.count))
     → row_found known plain twice full ≡ first_fit listing_rows (cs, contract_of c)

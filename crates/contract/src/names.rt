@@ -39,10 +39,12 @@ impl NameList {
 pub(crate) fn has_twice(texts: &[Text<32>]) -> bool
     ensures { result ≡ repeats (texts_of texts.now) }
 {
-    for i in 0..texts.len() {
-        if is_among(&texts[i + 1..], texts[i].as_slice()) {
+    let mut rest = texts;
+    while let Some((text, others)) = rest.split_first() {
+        if is_among(others, text.as_slice()) {
             return true;
         }
+        rest = others;
     }
     false
 }
