@@ -1,15 +1,14 @@
 -- Index names in a list of texts.
-use Rattle.std.proofs.Common.{◌≡◌, ℕ, ◌+◌, ◌-◌, ◌<◌, ◌≤◌, Bool, true, false, ◌&&◌, ◌||◌, eqb, leb, List, [], ◌∷◌, ◌++◌, length, get_or, take, drop, set, is_some, Some, None, Option, sym, refl, ap, ◌∙◌, append_assoc, arith}
+use Rattle.std.proofs.Common.{◌≡◌, ℕ, ◌+◌, ◌-◌, ◌<◌, ◌≤◌, Bool, true, ◌&&◌, ◌||◌, leb, List, [], ◌∷◌, ◌++◌, length, get_or, take, drop, set, is_some, Some, None, Option, sym, refl, ap, ◌∙◌, append_assoc, arith}
 use Rattle.std.proofs.lemmas.List.{at_drop_more, take_more_set, length-map, length-take-le, take_rest}
-use Rattle.std.proofs.lemmas.Bool.{and_parts, and_right}
+use Rattle.std.proofs.lemmas.Bool.{and_parts}
 use Rattle.std.proofs.lemmas.Bool.Decides.{nat_tests}
 use Rattle.text.specs.declared.bounded.Text.{Text}
-use Rattle.text.specs.Bytes.{Bytes, among, between, pieces, provided}
+use Rattle.text.specs.Bytes.{Bytes, among, between, provided}
 use Rattle.text.specs.Forms.{a_name}
 use Rattle.text.specs.Listings.{first_name}
 use Rattle.text.specs.Texts.{text_of, text_in, texts_of}
 use Rattle.text.proofs.Amongs.{texts_push}
-use Rattle.text.proofs.Pieces.{first_after}
 use Rattle.contract.specs.declared.held.NameList.{NameList}
 use Rattle.contract.specs.ContractList.{repeats}
 use Rattle.contract.specs.Held.{names_of}
@@ -48,17 +47,3 @@ one_more ts count x t ns more all l e f m h =
     ∙ append_assoc (texts_of (take count ts)) (t ∷ []) (drop 1 ns)
     ∙ ap (λ k. texts_of (take count ts) ++ k) (sym f)
     ∙ h
-
--- a line that says no name, and one that says some
-pub none_said : (ns : NameList) → leb 2 ns.count ≡ (leb 2 (length (names_of ns)) && true)
-none_said ns = ap (leb 2) (sym (names_count ns)) ∙ sym (and_true (leb 2 (length (names_of ns))))
-  where
-    and_true : (t : Bool) → (t && true) ≡ t
-    and_true true = refl
-    and_true false = refl
-
-pub some_said : (b : Bool) (t : Bytes) → false ≡ (b && eqb (length (pieces 44 t)) 0)
-some_said b t =
-    let l = ap length (first_after 44 t) in
-    let n : eqb (length (pieces 44 t)) 0 ≡ false = grind (arith, nat_tests) in
-    sym (and_right b _ n)

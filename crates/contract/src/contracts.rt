@@ -39,10 +39,7 @@ impl HeldContract {
     fn wants_name(&self, names: Names) -> bool
         ensures { result ≡ (nat_le 2 (length (contract_of self.now).index_names) && length (listing names.entry) == 0) }
     {
-        match names {
-            Names::None => self.names.count >= 2,
-            Names::Listed(_) => false,
-        }
+        self.names.count >= 2 && names.first().is_none()
     }
 }
 

@@ -73,7 +73,7 @@ impl<'a> Part<'a> {
     {
         match *self {
             Part::Names { names, .. } => names,
-            _ => Names::None,
+            _ => Names::none(),
         }
     }
 }
