@@ -13,11 +13,6 @@ use Rattle.contract.specs.declared.held.NameList.{NameList}
 use Rattle.contract.specs.ContractList.{repeats}
 use Rattle.contract.specs.Held.{names_of}
 
--- the first name and the others
-pub first_and_rest : (ns : List Bytes) (t : Bytes) → Some t ≡ first_name ns → ns ≡ t ∷ drop 1 ns
-first_and_rest [] t e = absurd (let z : ◌≡◌ {A = ℕ} 0 1 = cc in omega arith)
-first_and_rest (n ∷ ns) t e = ap (λ x. x ∷ ns) (cc)
-
 -- how many names a list has
 pub names_count : (ns : NameList) → length (names_of ns) ≡ ns.count
 names_count ns = length-map (take ns.count ns.texts) text_of ∙ length-take-le ns.count ns.texts (omega arith)
@@ -40,10 +35,10 @@ name_short s e = let p = (and_parts (between 1 32 (length s)) _ e).0 in grind (a
 
 -- one name more in its place
 pub one_more : (ts : List (Text 32)) (count : ℕ) (x : Text 32) (t : Bytes) (ns more all : List Bytes)
-    → count < length ts → text_of x ≡ t → ns ≡ t ∷ drop 1 ns → more ≡ drop 1 ns → texts_of (take count ts) ++ ns ≡ all
+    → count < length ts → text_of x ≡ t → ns ≡ t ∷ more → texts_of (take count ts) ++ ns ≡ all
     → texts_of (take (count + 1) (set ts count x)) ++ more ≡ all
-one_more ts count x t ns more all l e f m h =
-    (λ i. texts_push (take count ts) (take (count + 1) (set ts count x)) x t (take_more_set ts count x l) e i ++ m i)
-    ∙ append_assoc (texts_of (take count ts)) (t ∷ []) (drop 1 ns)
+one_more ts count x t ns more all l e f h =
+    (λ i. texts_push (take count ts) (take (count + 1) (set ts count x)) x t (take_more_set ts count x l) e i ++ more)
+    ∙ append_assoc (texts_of (take count ts)) (t ∷ []) more
     ∙ ap (λ k. texts_of (take count ts) ++ k) (sym f)
     ∙ h
