@@ -1,21 +1,13 @@
 -- Index names in a list of texts.
-use Rattle.std.proofs.Common.{◌≡◌, ℕ, ◌+◌, ◌-◌, ◌<◌, ◌≤◌, Bool, true, ◌&&◌, ◌||◌, leb, List, [], ◌∷◌, ◌++◌, length, get_or, take, drop, set, is_some, Some, None, Option, sym, refl, ap, ◌∙◌, append_assoc, arith}
-use Rattle.std.proofs.lemmas.List.{at_drop_more, take_more_set, length-map, length-take-le, take_rest}
+use Rattle.std.proofs.Common.{◌≡◌, ℕ, ◌+◌, ◌<◌, ◌≤◌, true, ◌&&◌, leb, List, [], ◌∷◌, ◌++◌, length, take, set, is_some, Some, None, Option, sym, refl, ap, ◌∙◌, append_assoc, arith}
+use Rattle.std.proofs.lemmas.List.{take_more_set}
 use Rattle.std.proofs.lemmas.Bool.{and_parts}
 use Rattle.std.proofs.lemmas.Bool.Decides.{nat_tests}
 use Rattle.text.specs.declared.bounded.Text.{Text}
-use Rattle.text.specs.Bytes.{Bytes, among, between, provided}
+use Rattle.text.specs.Bytes.{Bytes, between, provided}
 use Rattle.text.specs.Forms.{a_name}
-use Rattle.text.specs.Listings.{first_name}
 use Rattle.text.specs.Texts.{text_of, text_in, texts_of}
 use Rattle.text.proofs.Amongs.{texts_push}
-use Rattle.contract.specs.declared.held.NameList.{NameList}
-use Rattle.contract.specs.ContractList.{repeats}
-use Rattle.contract.specs.Held.{names_of}
-
--- how many names a list has
-pub names_count : (ns : NameList) → length (names_of ns) ≡ ns.count
-names_count ns = length-map (take ns.count ns.texts) text_of ∙ length-take-le ns.count ns.texts (omega arith)
 
 -- a text that is short enough is kept whole
 pub fits_text : (o : Option (Text 32)) (s : Bytes) → length s ≤ 32 → text_in o ≡ provided (leb (length s) 32 && leb (length s) 255) s → text_in o ≡ Some s

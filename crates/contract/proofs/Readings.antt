@@ -1,9 +1,9 @@
 -- A contract from the values of its fields.
-use Rattle.std.proofs.Common.{◌≡◌, ℕ, suc, ◌≤◌, Bool, true, false, cond, not, ◌&&◌, List, [], ◌∷◌, length, IsErrAnd, Some, None, Err, Option, Result, sym, refl, ap, ◌∙◌, arith}
+use Rattle.std.proofs.Common.{◌≡◌, ℕ, suc, ◌≤◌, Bool, true, false, cond, not, ◌&&◌, List, ◌∷◌, length, IsErrAnd, Some, None, Err, Option, Result, sym, refl, ap, ◌∙◌, arith}
 use Rattle.std.proofs.lemmas.Result.{err_from_is_err_and}
 use Rattle.std.proofs.lemmas.Bool.Decides.{nat_tests}
-use Rattle.text.specs.Bytes.{Bytes, piece, pieces, every, between, id_byte, has_form, value, then, provided}
-use Rattle.text.specs.Forms.{id_form, names_form, few_names}
+use Rattle.text.specs.Bytes.{Bytes, piece, every, between, id_byte, has_form, value, then, provided}
+use Rattle.text.specs.Forms.{id_form}
 use Rattle.text.specs.Rows.{Row, first_fit, fields, Refusal, Refused, settled_by}
 use Rattle.line.specs.declared.faults.ReadFault.{ReadFault}
 use Rattle.line.specs.declared.faults.ReadFault.TheVariants.{Form}
@@ -38,14 +38,6 @@ id_short t y e =
     let m = ap length p.1 in
     let k : length t ≤ 32 = grind (arith, nat_tests) in
     omega arith
-
-pub names_few : (t : Bytes) (y : List Bytes) → names_form t ≡ Some y → few_names 8 y ≡ true
-names_few [] y e = let n : [] ≡ y = cc in ap (few_names 8) (sym n)
-names_few (b ∷ bs) y e = go (few_names 8 (pieces 44 (b ∷ bs))) refl e
-  where
-    go : (t : Bool) → few_names 8 (pieces 44 (b ∷ bs)) ≡ t → provided t (pieces 44 (b ∷ bs)) ≡ Some y → few_names 8 y ≡ true
-    go true f e = let n : pieces 44 (b ∷ bs) ≡ y = cc in ap (few_names 8) (sym n) ∙ f
-    go false f e = absurd (let z : ◌≡◌ {A = ℕ} 0 1 = cc in omega arith)
 
 -- ---- Styles
 

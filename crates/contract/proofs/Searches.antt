@@ -1,13 +1,11 @@
 -- The first contract with an id, by where it stands.
-use Rattle.std.proofs.Common.{◌≡◌, ℕ, zero, suc, ◌+◌, ◌*◌, ◌<◌, ◌≤◌, sum_by, Bool, true, false, cond, List, [], ◌∷◌, map, length, get_or, Some, None, Option, sym, refl, ap, ◌∙◌, arith}
+use Rattle.std.proofs.Common.{◌≡◌, ℕ, zero, suc, ◌+◌, ◌*◌, ◌<◌, ◌≤◌, sum_by, Bool, true, false, cond, List, [], ◌∷◌, map, length, get_or, Some, None, sym, refl, ap, ◌∙◌, arith}
 use Rattle.std.specs.List.{position_from}
-use Rattle.std.specs.Str.{bytes_eq}
 use Rattle.std.proofs.lemmas.Option.{none-some}
 use Rattle.std.proofs.lemmas.List.Sums.{sum_by-cons}
 use Rattle.text.specs.Bytes.{Bytes}
-use Rattle.text.specs.Texts.{text_of}
 use Rattle.contract.specs.declared.held.HeldContract.{HeldContract}
-use Rattle.contract.specs.ContractList.{Contract, numbered}
+use Rattle.contract.specs.ContractList.{numbered}
 use Rattle.contract.specs.Held.{contract_of, has_id}
 
 pub found_at : (n : ℕ) (cs : List HeldContract) (id : Bytes) (i : ℕ) (d : HeldContract)

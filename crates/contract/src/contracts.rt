@@ -142,9 +142,7 @@ impl ContractList {
         if same_bytes(report.venue, b"XBIL") {
             return Ok(0);
         }
-        let Some(found) = self.find(report.contract) else {
-            return Err(ListFault::NotListed);
-        };
+        let found = self.find(report.contract).ok_or(ListFault::NotListed)?;
         if !has_all(found.contract.names.as_slice(), report.names) {
             return Err(ListFault::OtherName);
         }
