@@ -12,7 +12,7 @@ use Rattle.contract.specs.declared.faults.ListFault.{ListFault}
 use Rattle.contract.specs.declared.held.HeldContract.{HeldContract}
 use Rattle.contract.specs.declared.held.NameList.{NameList}
 use Rattle.contract.specs.declared.list.ContractList.TheInside.{Inside}
-use Rattle.contract.specs.ContractList.{Contract}
+use Rattle.contract.specs.ContractList.{Contract, contract_limit}
 use Rattle.contract.specs.Faults.{contract_refusal, list_fault_number, list_fault_field}
 
 abbrev pub names_of : NameList → List Bytes
@@ -36,8 +36,8 @@ contracts_of list = map contract_of (vec_items list.contracts)
 
 -- the places that are reserved, and how many of them are taken
 pub record HasRoom (list : Inside) : Type 0 where
-  pub fits : 63 ≤ vec_capacity list.contracts
-  pub few : vec_len list.contracts ≤ 63
+  pub fits : contract_limit ≤ vec_capacity list.contracts
+  pub few : vec_len list.contracts ≤ contract_limit
 
 -- ---- Answers
 

@@ -20,9 +20,9 @@ returns c =
     let held = c.self.inside.contracts.items in
     let l = length-map held contract_of in
     let m =
-        ap (map contract_of) c.push_reserved.ensures.items
-        ∙ map-append contract_of held (contract ∷ [])
-        ∙ ap (λ cs. cs ++ contract_of contract ∷ []) c.self.view_is in
+    ap (map contract_of) c.push_reserved.ensures.items
+    ∙ map-append contract_of held (contract ∷ [])
+    ∙ ap (λ cs. cs ++ contract_of contract ∷ []) c.self.view_is in
     let count = ap length c.self.view_is in
     let a = by_none c.args.self.now c.args.text.now contract c.in_ok-contract.ensures
     c.len.result _ (omega (arith, l, count, c.len.ensures, c.push_reserved.ensures.len)) m c.in_ok-check.ensures.told in
