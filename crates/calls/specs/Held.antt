@@ -1,6 +1,5 @@
 -- What a checker holds, as a book; and the law over every history of calls that led to it.
 use Rattle.std.specs.Prelude.{◌≡◌, ℕ, List, [], ◌∷◌, ◌++◌}
-use Rattle.contract.specs.Held.{contracts_of}
 use Rattle.filing.specs.Known.{known}
 use Rattle.files.specs.Held.{files_of}
 use Rattle.life.specs.declared.key.Key.{Key}
@@ -18,7 +17,7 @@ module _ {S M : Type 0} (room : S → ℕ) (pairs : S → List (Key × Life)) wh
   book_in c = record {
     capacity = room c.register.store.now;
     entities = known c.entities;
-    contracts = contracts_of c.contracts;
+    contracts = c.contracts;
     files = files_of c.files;
     lives = plain (pairs c.register.store.now);
   }

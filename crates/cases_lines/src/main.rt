@@ -6,8 +6,6 @@ use std::io;
 use std::io::{Read, Write};
 use text::{Action, Kind, Names, Side, rest_after, span_to};
 
-const MOST_NAMES: usize = 8;
-
 fn kind_word(kind: Kind) -> &'static [u8] {
     match kind {
         Kind::Order => b"order ",
@@ -32,15 +30,10 @@ fn action_word(action: Action) -> &'static [u8] {
 }
 
 fn write_names(out: &mut impl Write, names: Names) -> io::Result<()> {
-    let mut rest = names;
-    for _ in 0..MOST_NAMES {
-        let Some(name) = rest.first() else {
-            return Ok(());
-        };
+    for name in names {
         out.write_all(b" [")?;
         out.write_all(name)?;
         out.write_all(b"]")?;
-        rest = rest.rest();
     }
     Ok(())
 }

@@ -1,6 +1,5 @@
 // What a line claims, or why it makes no claim.
 ghost use Rattle.std.specs.Prelude.{◌≡◌};
-ghost use Rattle.contract.specs.Held.{contracts_of};
 ghost use Rattle.claims.specs.Claims.{claiming};
 ghost use Rattle.claims.specs.Made.{claim_in};
 
@@ -12,7 +11,7 @@ use line::{field_offset, read_line};
 
 // What a line claims, or the first rule that it breaks: of its form, then of the contract list.
 pub fn claim(contracts: &ContractList, line: &[u8]) -> Result<Claim, LineFault>
-    ensures { claim_in result ≡ claiming (contracts_of contracts.now) line.now }
+    ensures { claim_in result ≡ claiming contracts.now line.now }
 {
     let report = read_line(line)?;
     let number = match contracts.number_of(&report) {

@@ -1,36 +1,13 @@
 -- Index names in a list of texts.
-use Rattle.std.proofs.Common.{◌≡◌, ℕ, ◌+◌, ◌-◌, ◌<◌, ◌≤◌, Bool, true, false, ◌&&◌, ◌||◌, eqb, leb, List, [], ◌∷◌, ◌++◌, length, get_or, take, drop, set, is_some, Some, None, Option, sym, refl, ap, ◌∙◌, append_assoc, arith}
-use Rattle.std.proofs.lemmas.List.{at_drop_more, take_more_set, length-map, length-take-le, take_rest}
-use Rattle.std.proofs.lemmas.Bool.{and_parts, and_right}
+use Rattle.std.proofs.Common.{◌≡◌, ℕ, ◌+◌, ◌<◌, ◌≤◌, true, ◌&&◌, leb, List, [], ◌∷◌, ◌++◌, length, take, set, is_some, Some, None, Option, sym, refl, ap, ◌∙◌, append_assoc, arith}
+use Rattle.std.proofs.lemmas.List.{take_more_set}
+use Rattle.std.proofs.lemmas.Bool.{and_parts}
 use Rattle.std.proofs.lemmas.Bool.Decides.{nat_tests}
 use Rattle.text.specs.declared.bounded.Text.{Text}
-use Rattle.text.specs.Bytes.{Bytes, among, between, pieces, provided}
+use Rattle.text.specs.Bytes.{Bytes, between, provided}
 use Rattle.text.specs.Forms.{a_name}
-use Rattle.text.specs.Listings.{first_name}
 use Rattle.text.specs.Texts.{text_of, text_in, texts_of}
 use Rattle.text.proofs.Amongs.{texts_push}
-use Rattle.text.proofs.Pieces.{first_after}
-use Rattle.contract.specs.declared.held.NameList.{NameList}
-use Rattle.contract.specs.ContractList.{repeats}
-use Rattle.contract.specs.Held.{names_of}
-
--- the first name and the others
-pub first_and_rest : (ns : List Bytes) (t : Bytes) → Some t ≡ first_name ns → ns ≡ t ∷ drop 1 ns
-first_and_rest [] t e = absurd (let z : ◌≡◌ {A = ℕ} 0 1 = cc in omega arith)
-first_and_rest (n ∷ ns) t e = ap (λ x. x ∷ ns) (cc)
-
--- one text more that may stand twice: b says whether it stands among those after it
-pub twice_more : (ts : List (Text 32)) (i : ℕ) (x : Text 32) (u : Bytes) (b : Bool)
-    → i < length ts → x ≡ get_or ts i x → u ≡ text_of x → b ≡ among (texts_of (take (length ts - (i + 1)) (drop (i + 1) ts))) u
-    → repeats (texts_of (drop i ts)) ≡ (b || repeats (texts_of (drop (i + 1) ts)))
-twice_more ts i x u b l e f a =
-    at_drop_more (λ xs. repeats (texts_of xs)) ts i x l
-    ∙ ap (λ y. among (texts_of (drop (i + 1) ts)) (text_of y) || repeats (texts_of (drop (i + 1) ts))) (sym e)
-    ∙ ap (λ t. t || repeats (texts_of (drop (i + 1) ts))) (sym (a ∙ (λ j. among (texts_of (take_rest ts (i + 1) j)) (f j))))
-
--- how many names a list has
-pub names_count : (ns : NameList) → length (names_of ns) ≡ ns.count
-names_count ns = length-map (take ns.count ns.texts) text_of ∙ length-take-le ns.count ns.texts (omega arith)
 
 -- a text that is short enough is kept whole
 pub fits_text : (o : Option (Text 32)) (s : Bytes) → length s ≤ 32 → text_in o ≡ provided (leb (length s) 32 && leb (length s) 255) s → text_in o ≡ Some s
@@ -50,24 +27,10 @@ name_short s e = let p = (and_parts (between 1 32 (length s)) _ e).0 in grind (a
 
 -- one name more in its place
 pub one_more : (ts : List (Text 32)) (count : ℕ) (x : Text 32) (t : Bytes) (ns more all : List Bytes)
-    → count < length ts → text_of x ≡ t → ns ≡ t ∷ drop 1 ns → more ≡ drop 1 ns → texts_of (take count ts) ++ ns ≡ all
+    → count < length ts → text_of x ≡ t → ns ≡ t ∷ more → texts_of (take count ts) ++ ns ≡ all
     → texts_of (take (count + 1) (set ts count x)) ++ more ≡ all
-one_more ts count x t ns more all l e f m h =
-    (λ i. texts_push (take count ts) (take (count + 1) (set ts count x)) x t (take_more_set ts count x l) e i ++ m i)
-    ∙ append_assoc (texts_of (take count ts)) (t ∷ []) (drop 1 ns)
+one_more ts count x t ns more all l e f h =
+    (λ i. texts_push (take count ts) (take (count + 1) (set ts count x)) x t (take_more_set ts count x l) e i ++ more)
+    ∙ append_assoc (texts_of (take count ts)) (t ∷ []) more
     ∙ ap (λ k. texts_of (take count ts) ++ k) (sym f)
     ∙ h
-
--- a line that says no name, and one that says some
-pub none_said : (ns : NameList) → leb 2 ns.count ≡ (leb 2 (length (names_of ns)) && true)
-none_said ns = ap (leb 2) (sym (names_count ns)) ∙ sym (and_true (leb 2 (length (names_of ns))))
-  where
-    and_true : (t : Bool) → (t && true) ≡ t
-    and_true true = refl
-    and_true false = refl
-
-pub some_said : (b : Bool) (t : Bytes) → false ≡ (b && eqb (length (pieces 44 t)) 0)
-some_said b t =
-    let l = ap length (first_after 44 t) in
-    let n : eqb (length (pieces 44 t)) 0 ≡ false = grind (arith, nat_tests) in
-    sym (and_right b _ n)

@@ -1,9 +1,9 @@
 -- A contract from the values of its fields.
-use Rattle.std.proofs.Common.{◌≡◌, ℕ, suc, ◌≤◌, Bool, true, false, cond, not, ◌&&◌, List, [], ◌∷◌, length, IsErrAnd, Some, None, Err, Option, Result, sym, refl, ap, ◌∙◌, arith}
+use Rattle.std.proofs.Common.{◌≡◌, ℕ, suc, ◌≤◌, Bool, true, false, cond, not, ◌&&◌, List, ◌∷◌, length, IsErrAnd, Some, None, Err, Option, Result, sym, refl, ap, ◌∙◌, arith}
 use Rattle.std.proofs.lemmas.Result.{err_from_is_err_and}
 use Rattle.std.proofs.lemmas.Bool.Decides.{nat_tests}
-use Rattle.text.specs.Bytes.{Bytes, piece, pieces, every, between, id_byte, has_form, value, then, provided}
-use Rattle.text.specs.Forms.{id_form, names_form, few_names}
+use Rattle.text.specs.Bytes.{Bytes, piece, every, between, id_byte, has_form, value, then, provided}
+use Rattle.text.specs.Forms.{id_form}
 use Rattle.text.specs.Rows.{Row, first_fit, fields, Refusal, Refused, settled_by}
 use Rattle.line.specs.declared.faults.ReadFault.{ReadFault}
 use Rattle.line.specs.declared.faults.ReadFault.TheVariants.{Form}
@@ -39,14 +39,6 @@ id_short t y e =
     let k : length t ≤ 32 = grind (arith, nat_tests) in
     omega arith
 
-pub names_few : (t : Bytes) (y : List Bytes) → names_form t ≡ Some y → few_names 8 y ≡ true
-names_few [] y e = let n : [] ≡ y = cc in ap (few_names 8) (sym n)
-names_few (b ∷ bs) y e = go (few_names 8 (pieces 44 (b ∷ bs))) refl e
-  where
-    go : (t : Bool) → few_names 8 (pieces 44 (b ∷ bs)) ≡ t → provided t (pieces 44 (b ∷ bs)) ≡ Some y → few_names 8 y ≡ true
-    go true f e = let n : pieces 44 (b ∷ bs) ≡ y = cc in ap (few_names 8) (sym n) ∙ f
-    go false f e = absurd (let z : ◌≡◌ {A = ℕ} 0 1 = cc in omega arith)
-
 -- ---- Styles
 
 same_form : (o : Option (Option ℕ)) → has_form o ≡ has_form (then o (λ s. Some (as_style s)))
@@ -55,8 +47,7 @@ same_form (Some s) = refl
 
 pub style_value : (o : Option (Option ℕ)) (y : OptionStyle) → then o (λ s. Some (as_style s)) ≡ Some y → style_of y ≡ value None o
 style_value None y e = absurd (let z : ◌≡◌ {A = ℕ} 0 1 = cc in omega arith)
-style_value (Some None) y e = let n : as_style None ≡ y = cc in ap style_of (sym n)
-style_value (Some (Some b)) y e = let n : as_style (Some b) ≡ y = cc in ap style_of (sym n)
+style_value (Some s) y e = let n : as_style s ≡ y = cc in ap style_of (sym n)
 
 -- the row of the style, by the style as the code has it
 pub restyled : {V : Type 0} {bs : Bytes} {all : List (Row Bytes)} {v : V} {p : Place} {line : Bytes} {k n f : ℕ} {rows : List (Row Bytes)}

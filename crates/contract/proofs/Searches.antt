@@ -1,29 +1,39 @@
--- Going through the contracts one by one.
-use Rattle.std.proofs.Common.{◌≡◌, ℕ, suc, ◌+◌, ◌<◌, Bool, cond, List, ◌∷◌, map, length, get_or, drop, Some, sym, ap, ◌∙◌, add-one}
-use Rattle.std.specs.Str.{bytes_eq}
-use Rattle.std.proofs.lemmas.List.{at_drop_more}
+-- The first contract with an id, by where it stands.
+use Rattle.std.proofs.Common.{◌≡◌, ℕ, zero, suc, ◌+◌, ◌*◌, ◌<◌, ◌≤◌, sum_by, Bool, true, false, cond, List, [], ◌∷◌, map, length, get_or, Some, None, sym, refl, ap, ◌∙◌, arith}
+use Rattle.std.specs.List.{position_from}
+use Rattle.std.proofs.lemmas.Option.{none-some}
 use Rattle.std.proofs.lemmas.List.Sums.{sum_by-cons}
 use Rattle.text.specs.Bytes.{Bytes}
-use Rattle.text.specs.Texts.{text_of}
 use Rattle.contract.specs.declared.held.HeldContract.{HeldContract}
-use Rattle.contract.specs.ContractList.{numbered, names_in}
-use Rattle.contract.specs.Held.{contract_of}
-use Rattle.contract.proofs.NameTexts.{names_count}
+use Rattle.contract.specs.ContractList.{numbered}
+use Rattle.contract.specs.Held.{contract_of, has_id}
 
--- one contract more: r says whether it has the id
-pub search_more : (cs : List HeldContract) (id u : Bytes) (i : ℕ) (x : HeldContract) (r : Bool)
-    → i < length cs → x ≡ get_or cs i x → u ≡ text_of x.id → r ≡ bytes_eq u id
-    → numbered (i + 1) (map contract_of (drop i cs)) id ≡ cond r (Some (i + 1, contract_of x)) (numbered (i + 1 + 1) (map contract_of (drop (i + 1) cs)) id)
-search_more cs id u i x r l e f s =
-    at_drop_more (λ ys. numbered (i + 1) (map contract_of ys) id) cs i x l
-    ∙ ap (λ y. cond (bytes_eq (text_of y.id) id) (Some (i + 1, contract_of y)) (numbered (suc (i + 1)) (map contract_of (drop (i + 1) cs)) id)) (sym e)
-    ∙ (λ j. cond (sym (s ∙ ap (λ t. bytes_eq t id) f) j) (Some (i + 1, contract_of x)) (numbered (sym (add-one (i + 1)) j) (map contract_of (drop (i + 1) cs)) id))
+pub found_at : (n : ℕ) (cs : List HeldContract) (id : Bytes) (i : ℕ) (d : HeldContract)
+    → i < length cs → has_id id (get_or cs i d) ≡ true → ((k : ℕ) → k < i → has_id id (get_or cs k d) ≡ false)
+    → numbered n (map contract_of cs) id ≡ Some (n + i, contract_of (get_or cs i d))
+found_at n [] id i d l y f = absurd (omega arith)
+found_at n (c ∷ cs) id zero d l y f =
+    let s : n ≡ n + zero = omega arith in
+    ap (λ b. cond b (Some (n, contract_of c)) (numbered (suc n) (map contract_of cs) id)) y ∙ ap (λ m. Some (m, contract_of c)) s
+found_at n (c ∷ cs) id (suc i) d l y f =
+    let s : suc n + i ≡ n + suc i = omega arith in
+    ap (λ b. cond b (Some (n, contract_of c)) (numbered (suc n) (map contract_of cs) id)) (f 0 (omega arith))
+    ∙ found_at (suc n) cs id i d (omega arith) y (λ k m. f (suc k) (omega arith))
+    ∙ ap (λ m. Some (m, contract_of (get_or cs i d))) s
 
--- the names of one contract more
-pub count_more : (cs : List HeldContract) (i : ℕ) (x : HeldContract) → i < length cs → x ≡ get_or cs i x
-    → names_in (map contract_of (drop i cs)) ≡ x.names.count + names_in (map contract_of (drop (i + 1) cs))
-count_more cs i x l e =
-    at_drop_more (λ ys. names_in (map contract_of ys)) cs i x l
-    ∙ ap (λ y. names_in (contract_of y ∷ map contract_of (drop (i + 1) cs))) (sym e)
-    ∙ sum_by-cons (λ c. length c.index_names) (contract_of x) (map contract_of (drop (i + 1) cs))
-    ∙ ap (λ n. n + names_in (map contract_of (drop (i + 1) cs))) (names_count x.names)
+pub none_found : (n m : ℕ) (cs : List HeldContract) (id : Bytes) → position_from (has_id id) m cs ≡ None → numbered n (map contract_of cs) id ≡ None
+none_found n m [] id e = refl
+none_found n m (c ∷ cs) id e = go (has_id id c) e (none_found (suc n) (m + 1) cs id)
+  where
+    go : (b : Bool) → cond b (Some m) (position_from (has_id id) (m + 1) cs) ≡ None
+        → (position_from (has_id id) (m + 1) cs ≡ None → numbered (suc n) (map contract_of cs) id ≡ None)
+        → cond b (Some (n, contract_of c)) (numbered (suc n) (map contract_of cs) id) ≡ None
+    go true f h = absurd (none-some m (sym f))
+    go false f h = h f
+
+-- no contract has more than eight names
+pub eight_each : (cs : List HeldContract) → sum_by (λ c. c.names.count) cs ≤ 8 * length cs
+eight_each [] = omega arith
+eight_each (c ∷ cs) =
+    let few = c.names.few in
+    omega (arith, few, sum_by-cons (λ (c : HeldContract). c.names.count) c cs, eight_each cs)

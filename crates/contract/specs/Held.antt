@@ -1,5 +1,6 @@
 -- What the list holds and answers, as plain data.
-use Rattle.std.specs.Prelude.{ℕ, List, map, take, Some, None, Ok, Err, vec_items, Option, Result}
+use Rattle.std.specs.Prelude.{ℕ, ◌≤◌, Bool, List, map, take, Some, None, Ok, Err, vec_items, vec_len, vec_capacity, Option, Result}
+use Rattle.std.specs.Str.{bytes_eq}
 use Rattle.text.specs.Bytes.{Bytes}
 use Rattle.text.specs.Rows.{Refusal}
 use Rattle.text.specs.Texts.{text_of, texts_of}
@@ -10,9 +11,8 @@ use Rattle.contract.specs.declared.faults.ContractFault.TheVariants.{Form}
 use Rattle.contract.specs.declared.faults.ListFault.{ListFault}
 use Rattle.contract.specs.declared.held.HeldContract.{HeldContract}
 use Rattle.contract.specs.declared.held.NameList.{NameList}
-use Rattle.contract.specs.declared.list.ContractList.{ContractList}
-use Rattle.contract.specs.ContractList.{Contract}
-use Rattle.contract.specs.Styles.{style_of}
+use Rattle.contract.specs.declared.list.ContractList.TheInside.{Inside}
+use Rattle.contract.specs.ContractList.{Contract, contract_limit}
 use Rattle.contract.specs.Faults.{contract_refusal, list_fault_number, list_fault_field}
 
 abbrev pub names_of : NameList → List Bytes
@@ -22,12 +22,22 @@ abbrev pub contract_of : HeldContract → Contract
 contract_of c = record {
   contract_id = text_of c.id;
   contract_type = c.kind;
-  style = style_of c.style;
+  style = c.style;
   index_names = names_of c.names;
 }
 
-abbrev pub contracts_of : ContractList → List Contract
+-- whether a contract has the id
+abbrev pub has_id : Bytes → HeldContract → Bool
+has_id id c = bytes_eq (text_of c.id) id
+
+-- the contracts of a list, by its field
+abbrev pub contracts_of : Inside → List Contract
 contracts_of list = map contract_of (vec_items list.contracts)
+
+-- the places that are reserved, and how many of them are taken
+pub record HasRoom (list : Inside) : Type 0 where
+  pub fits : contract_limit ≤ vec_capacity list.contracts
+  pub few : vec_len list.contracts ≤ contract_limit
 
 -- ---- Answers
 

@@ -1,10 +1,10 @@
 // Adding contracts, and what a read line owes to the list.
-ghost use Rattle.std.specs.Prelude.{◌≡◌, ◌+◌, ◌<◌, ◌≤◌, false, not, ◌&&◌, ◌||◌, [], length, is_some, IfSome, IfOk, vec_len, OnOk, ◌==◌, nat_le, nat_lt};
+ghost use Rattle.std.specs.Prelude.{◌≡◌, ◌+◌, ◌<◌, ◌≤◌, false, not, ◌&&◌, ◌||◌, [], length, is_some, IfSome, IfOk, OnOk, position, ◌==◌, nat_le, nat_lt};
 ghost use Rattle.text.specs.Listings.{listing};
 ghost use Rattle.text.specs.Rows.{first_fit, settled_by};
 ghost use Rattle.line.specs.Reports.{said};
 ghost use Rattle.contract.specs.ContractList.{listed, names_in, needs_style, listing_rows, adding, added, due};
-ghost use Rattle.contract.specs.Held.{contract_of, contracts_of, added_in, found_in, number_in};
+ghost use Rattle.contract.specs.Held.{contract_of, has_id, added_in, found_in, number_in};
 
 use crate::faults::{ContractFault, ListFault};
 use crate::held::HeldContract;
@@ -32,24 +32,30 @@ impl HeldContract {
     fn lacks_style(&self) -> bool
         ensures { result ≡ (needs_style (contract_of self.now).contract_type && not (is_some (contract_of self.now).style)) }
     {
-        self.kind.needs_style() && self.style.is_blank()
+        self.kind.needs_style() && self.style.is_none()
     }
 
     // Whether a line lacks an index name: a contract with two or more wants one said.
     fn wants_name(&self, names: Names) -> bool
         ensures { result ≡ (nat_le 2 (length (contract_of self.now).index_names) && length (listing names.entry) == 0) }
     {
-        match names {
-            Names::None => self.names.count >= 2,
-            Names::Listed(_) => false,
-        }
+        self.names.count >= 2 && names.first().is_none()
     }
+}
+
+// Where the contract with an id stands.
+fn place_of(contracts: &[HeldContract], id: &[u8]) -> Option<usize>
+    ensures { result ≡ position (has_id id.now) contracts.now }
+{
+    contracts
+        .iter()
+        .position(|contract| same_bytes(contract.id.as_slice(), id))
 }
 
 impl ContractList {
     // A list with no contract, and with room for all that it may have.
     pub fn new(heap: Global) -> Result<ContractList, AllocError>
-        ensures { IfOk result (λ list. contracts_of list ≡ []) }
+        ensures { IfOk result (λ list. list ≡ []) }
     {
         let contracts = Vec::with_capacity(heap, MOST_CONTRACTS)?;
         Ok(ContractList { contracts })
@@ -57,57 +63,46 @@ impl ContractList {
 
     // The contract with an id.
     fn find(&self, id: &[u8]) -> Option<Found<'_>>
-        ensures told { found_in result ≡ listed (contracts_of self.now) id.now }
+        ensures told { found_in result ≡ listed self.now id.now }
         ensures small { IfSome result (λ found. found.number < 64) }
     {
-        let contracts = self.contracts.as_slice();
-        for i in 0..contracts.len() {
-            let contract = &contracts[i];
-            if same_bytes(contract.id.as_slice(), id) {
-                return Some(Found {
-                    number: i as u8 + 1,
-                    contract,
-                });
-            }
-        }
-        None
+        let at = place_of(&self.contracts, id)?;
+        Some(Found {
+            number: at as u8 + 1,
+            contract: &self.contracts[at],
+        })
     }
 
     // Whether there is a contract with an id.
     fn lists(&self, id: &[u8]) -> bool
-        ensures { result ≡ is_some (listed (contracts_of self.now) id.now) }
+        ensures { result ≡ is_some (listed self.now id.now) }
     {
-        match self.find(id) {
-            Some(_) => true,
-            None => false,
-        }
+        self.find(id).is_some()
     }
 
     // How many index names the contracts have in all.
     fn name_count(&self) -> usize
-        ensures value { result ≡ names_in (contracts_of self.now) }
+        ensures value { result ≡ names_in self.now }
         ensures small { result ≤ 504 }
     {
-        let mut n = 0;
-        let contracts = self.contracts.as_slice();
-        for contract in contracts {
-            n += contract.names.count as usize;
-        }
-        n
+        self.contracts
+            .iter()
+            .map(|contract| contract.names.count as usize)
+            .sum()
     }
 
     // Whether there is no room for a contract with so many names.
     fn is_full(&self, names: u8) -> bool
-        ensures value { result ≡ (nat_le 63 (length (contracts_of self.now)) || nat_lt 255 (names_in (contracts_of self.now) + names)) }
-        ensures room { result ≡ false → vec_len self.now.contracts < 63 }
+        ensures value { result ≡ (nat_le 63 (length self.now) || nat_lt 255 (names_in self.now + names)) }
+        ensures room { result ≡ false → length self.now < 63 }
     {
         self.contracts.len() >= MOST_CONTRACTS || self.name_count() + names as usize > MOST_NAMES
     }
 
     // Whether a contract may be added; its text tells the offsets of its fields.
     fn check(&self, contract: &HeldContract, text: &[u8]) -> Result<(), ContractFault>
-        ensures told { added_in result ≡ settled_by text.now tt (first_fit listing_rows (contracts_of self.now, contract_of contract.now)) }
-        ensures room { OnOk result (vec_len self.now.contracts < 63) }
+        ensures told { added_in result ≡ settled_by text.now tt (first_fit listing_rows (self.now, contract_of contract.now)) }
+        ensures room { OnOk result (length self.now < 63) }
     {
         if self.lists(contract.id.as_slice()) {
             return Err(ContractFault::Listed);
@@ -130,8 +125,8 @@ impl ContractList {
 
     // Adds a contract by its text: its number, from 1 in the order of adding, or the first rule that it breaks.
     pub fn add(&mut self, text: &[u8]) -> Result<u8, ContractFault>
-        ensures told { added_in result ≡ adding (contracts_of self.old) text.now }
-        ensures list { contracts_of self.new ≡ added (contracts_of self.old) text.now }
+        ensures told { added_in result ≡ adding self.old text.now }
+        ensures list { self.new ≡ added self.old text.now }
     {
         let contract = read_contract(text)?;
         self.check(&contract, text)?;
@@ -141,15 +136,13 @@ impl ContractList {
 
     // The contract number of a read line, or the first rule of the list that it breaks. At XBIL the number is 0 and no rule applies.
     pub fn number_of(&self, report: &Report) -> Result<u8, ListFault>
-        ensures told { number_in result ≡ due (contracts_of self.now) (said report.now) }
+        ensures told { number_in result ≡ due self.now (said report.now) }
         ensures small { IfOk result (λ n. n < 64) }
     {
         if same_bytes(report.venue, b"XBIL") {
             return Ok(0);
         }
-        let Some(found) = self.find(report.contract) else {
-            return Err(ListFault::NotListed);
-        };
+        let found = self.find(report.contract).ok_or(ListFault::NotListed)?;
         if !has_all(found.contract.names.as_slice(), report.names) {
             return Err(ListFault::OtherName);
         }

@@ -19,6 +19,7 @@ pub enum ContractFault {
     Full,
 }
 
+// Written out: its ghost member tells a clause which fault a `?` makes of a fault in reading.
 impl From<ReadFault> for ContractFault {
     ghost from_gives = { λ e r. r ≡ Form e };
 
@@ -27,6 +28,7 @@ impl From<ReadFault> for ContractFault {
     }
 }
 
+// Written out for each enum: they share no method but `number` and `field`, and a trait of these two would be no shorter.
 impl ContractFault {
     // The published number.
     pub fn number(&self) -> u8

@@ -1,11 +1,22 @@
 // The contracts in the order of adding. Their places are reserved when the list is made, so that adding never wants memory.
-ghost use Rattle.std.specs.Prelude.{◌≤◌, vec_len, vec_capacity};
-
 use crate::held::HeldContract;
+use std::marker::Model;
 
+// Contracts and proofs see the list of what the contracts say.
 #[derive(Drop)]
 pub struct ContractList {
     pub(crate) contracts: Vec<HeldContract>,
-    ghost fits: { 63 ≤ vec_capacity contracts },
-    ghost few: { vec_len contracts ≤ 63 },
+}
+
+impl Model for ContractList {
+    ghost use Rattle.std.specs.Prelude.{List};
+    ghost use Rattle.contract.specs.ContractList.{Contract};
+
+    ghost Value = { List Contract };
+
+    ghost use Rattle.contract.specs.Held.{contracts_of, HasRoom};
+
+    ghost view = { contracts_of };
+
+    ghost invariant = { HasRoom };
 }

@@ -18,11 +18,9 @@ impl NameList {
     {
         let mut texts = [Text::empty(); 8];
         let mut count: u8 = 0;
-        let mut rest = names;
-        while let Some(name) = rest.first() {
+        for name in names {
             texts[count as usize] = Text::new(name).unwrap();
             count += 1;
-            rest = rest.rest();
         }
         NameList { texts, count }
     }
@@ -39,24 +37,19 @@ impl NameList {
 pub(crate) fn has_twice(texts: &[Text<32>]) -> bool
     ensures { result ≡ repeats (texts_of texts.now) }
 {
-    for i in 0..texts.len() {
-        if is_among(&texts[i + 1..], texts[i].as_slice()) {
+    let mut rest = texts;
+    while let Some((text, others)) = rest.split_first() {
+        if is_among(others, text.as_slice()) {
             return true;
         }
+        rest = others;
     }
     false
 }
 
 // Whether every name stands in a list.
-pub(crate) fn has_all(texts: &[Text<32>], names: Names) -> bool
+pub(crate) fn has_all(texts: &[Text<32>], mut names: Names) -> bool
     ensures { result ≡ every (among (texts_of texts.now)) (listing names.entry) }
 {
-    let mut rest = names;
-    while let Some(name) = rest.first() {
-        if !is_among(texts, name) {
-            return false;
-        }
-        rest = rest.rest();
-    }
-    true
+    names.all(|name| is_among(texts, name))
 }

@@ -42,7 +42,7 @@ fn read_fields(text: &[u8]) -> Result<HeldContract, ReadFault>
     Ok(HeldContract {
         id: Text::new(id.bytes()).unwrap(),
         kind,
-        style,
+        style: style.0,
         names: NameList::of(names.names()),
     })
 }

@@ -1,7 +1,7 @@
 // The types of contracts, and option styles.
 ghost use Rattle.std.specs.Prelude.{◌≡◌};
 ghost use Rattle.contract.specs.ContractList.{type_form, needs_style};
-ghost use Rattle.contract.specs.Styles.{style_said, is_blank};
+ghost use Rattle.contract.specs.Styles.{style_said};
 
 // The types, as their letters say them: auction, continuous, future, forward, option (alone and on a future, forward, spot or swap), other, spot,
 // swap, and swing.
@@ -49,22 +49,16 @@ impl ContractType {
     pub(crate) fn needs_style(self) -> bool
         ensures { result ≡ needs_style self }
     {
-        match self {
-            ContractType::Op => true,
-            ContractType::OpFu => true,
-            ContractType::OpFw => true,
-            ContractType::OpSw => true,
-            _ => false,
-        }
+        matches!(
+            self,
+            ContractType::Op | ContractType::OpFu | ContractType::OpFw | ContractType::OpSw
+        )
     }
 }
 
-// An option style: blank, or one capital letter.
+// An option style: one capital letter, or none where the field is blank.
 #[derive(Clone, Copy)]
-pub enum OptionStyle {
-    Blank,
-    Letter(u8),
-}
+pub struct OptionStyle(pub(crate) Option<u8>);
 
 impl OptionStyle {
     // The style that a text names.
@@ -72,24 +66,9 @@ impl OptionStyle {
         ensures { result ≡ style_said text.now }
     {
         match text {
-            [] => Some(OptionStyle::Blank),
-            [b] => {
-                if b.is_ascii_uppercase() {
-                    Some(OptionStyle::Letter(*b))
-                } else {
-                    None
-                }
-            }
+            [] => Some(OptionStyle(None)),
+            [b] if b.is_ascii_uppercase() => Some(OptionStyle(Some(*b))),
             _ => None,
-        }
-    }
-
-    pub(crate) fn is_blank(self) -> bool
-        ensures { result ≡ is_blank self }
-    {
-        match self {
-            OptionStyle::Blank => true,
-            OptionStyle::Letter(_) => false,
         }
     }
 }

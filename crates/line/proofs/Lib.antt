@@ -1,4 +1,3 @@
-pub mod Cuts
 pub mod Fields
 pub mod Reports
 pub mod Stages

@@ -1,5 +1,5 @@
 -- Where a field starts, found a field at a time.
-use Rattle.std.proofs.Common.{◌≡◌, ℕ, zero, suc, ◌+◌, ◌-◌, ◌<◌, ◌≤◌, Bool, true, false, cond, not, eqb, ltb, leb, List, [], ◌∷◌, length, drop, sym, refl, ap, ◌∙◌, ⊎_elim, arith, length-drop}
+use Rattle.std.proofs.Common.{◌≡◌, ℕ, zero, suc, ◌+◌, ◌-◌, ◌<◌, ◌≤◌, true, false, cond, not, eqb, ltb, leb, List, [], ◌∷◌, length, drop, sym, refl, ap, ◌∙◌, ⊎_elim, arith, length-drop}
 use Rattle.std.proofs.lemmas.List.{drop-drop, length-take-le}
 use Rattle.std.proofs.lemmas.List.Sums.{prefix_len-le-length}
 use Rattle.std.proofs.lemmas.Bool.{cases_Bool}
@@ -18,25 +18,12 @@ start_none zero = refl
 start_none (suc zero) = refl
 start_none (suc (suc n)) = refl
 
--- no field starts before the first
-start_first : (n : ℕ) (ts : List Bytes) → n ≤ 1 → start n ts ≡ 0
-start_first zero ts h = refl
-start_first (suc zero) ts h = refl
-start_first (suc (suc n)) ts h = absurd (omega arith)
-
 start_cons : (n : ℕ) (t : Bytes) (ts : List Bytes) → 1 < n → start n (t ∷ ts) ≡ length t + 1 + start (n - 1) ts
 start_cons zero t ts h = absurd (omega arith)
 start_cons (suc zero) t ts h = absurd (omega arith)
 start_cons (suc (suc n)) t ts h = let m : suc n ≡ suc (suc n) - 1 = omega arith in ap (λ m. length t + 1 + start m ts) m
 
-pub found : (n at : ℕ) (bs : Bytes) → n ≤ 1 → start_from n at bs ≡ 0
-found n at bs h = ap (λ m. cond (leb at (length bs)) m 0) (start_first n (fields (drop at bs)) h) ∙ same (leb at (length bs))
-  where
-    same : (t : Bool) → ◌≡◌ {A = ℕ} (cond t 0 0) 0
-    same true = refl
-    same false = refl
-
-pub over : (n at : ℕ) (bs : Bytes) → length bs < at → start_from n at bs ≡ 0
+over : (n at : ℕ) (bs : Bytes) → length bs < at → start_from n at bs ≡ 0
 over n at bs h = let t : leb at (length bs) ≡ false = grind (arith, nat_tests) in ap (λ t. cond t (start n (fields (drop at bs))) 0) t
 
 -- one field further

@@ -24,7 +24,7 @@ impl ReadFault {
         }
     }
 
-    // The field, or 0 where none is named.
+    // The field, or 0 where none is named. 0, and not an Option: it is the published number for no field.
     pub fn field(&self) -> u8
         ensures { result ≡ fault_field self.now }
     {

@@ -9,13 +9,7 @@ use text::span_to;
 pub fn field_count(text: &[u8]) -> usize
     ensures { result ≡ length (fields text.now) }
 {
-    let mut n = 1;
-    for b in text {
-        if *b == b';' {
-            n += 1;
-        }
-    }
-    n
+    text.iter().filter(|b| **b == b';').count() + 1
 }
 
 // The offset of a field's first byte, counting fields from 1, or 0 for no field.
@@ -23,10 +17,11 @@ pub fn field_offset(text: &[u8], field: u8) -> usize
     ensures { result ≡ start field (fields text.now) }
 {
     let mut at = 0;
-    let mut left = field;
-    while left > 1 && at <= text.len() {
+    for _ in 1..field {
+        if at > text.len() {
+            break;
+        }
         at += span_to(&text[at..], b';') + 1;
-        left -= 1;
     }
     at
 }

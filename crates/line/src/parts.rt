@@ -5,6 +5,8 @@ ghost use Rattle.line.specs.Reads.{seen, bytes_of, number_of, signed_of, names_o
 
 use text::Names;
 
+// A rule of the project: each case holds the bytes that it was read from and their offset, so that whoever holds a part
+// can point at its field.
 #[derive(Clone, Copy)]
 pub enum Part<'a> {
     Blank {
@@ -45,7 +47,7 @@ impl<'a> Part<'a> {
         }
     }
 
-    // The number that it writes, or 0 where it is none.
+    // The number that it writes, or 0 where it is none. 0, and not an Option: its contract has always said so.
     pub fn number(&self) -> u64
         ensures { result ≡ number_of (seen self.now) }
     {
@@ -71,7 +73,7 @@ impl<'a> Part<'a> {
     {
         match *self {
             Part::Names { names, .. } => names,
-            _ => Names::None,
+            _ => Names::none(),
         }
     }
 }

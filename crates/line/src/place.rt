@@ -1,5 +1,5 @@
 // Where a reader stands: an offset, and how many fields it has read, counted up to 255.
-ghost use Rattle.std.specs.Prelude.{◌≡◌, if◌then◌else◌};
+ghost use Rattle.std.specs.Prelude.{◌≡◌, unwrap_or};
 
 #[derive(Clone, Copy)]
 pub struct Place {
@@ -10,21 +10,17 @@ pub struct Place {
 // Puts a place back where it was when the reading of a field began, unless the reading is kept.
 pub(crate) struct Rewind<'p> {
     pub(crate) place: &'p mut Place,
-    pub(crate) start: Place,
-    pub(crate) kept: bool,
+    // where to go back to; none where the reading is kept
+    pub(crate) back: Option<Place>,
 }
 
 impl Drop for Rewind<'_> {
     fn drop(self)
-        ensures { self.exit.0.now ≡ (if self.entry.kept then self.entry.place.now else self.entry.start) }
+        ensures { self.exit.0.now ≡ unwrap_or self.entry.back self.entry.place.now }
     {
-        if !self.kept {
-            *self.place = self.start;
+        let Rewind { place, back } = self;
+        if let Some(start) = back {
+            *place = start;
         }
-        let Rewind {
-            place: _,
-            start: _,
-            kept: _,
-        } = self;
     }
 }

@@ -1,9 +1,10 @@
 // Hands out the fields of a line in order, and copies nothing.
 // A reading that fails leaves the reader at the field's first byte.
 ghost use Rattle.std.specs.Prelude.{◌≡◌, ℕ, ◌+◌, List, drop, Option};
+ghost use Rattle.std.specs.Fn.{FnOnceReturnsAt};
 ghost use Rattle.text.specs.Forms.{kind_form, id_form, venue_form, code_form, side_form, action_form, time_form, quantity_form, price_form, names_form};
 ghost use Rattle.line.specs.declared.faults.ReadFault.TheVariants.{Form};
-ghost use Rattle.line.specs.Reads.{front, pace, next_field, read, past, seen, seen_in, as_read, as_word, as_number, as_price, as_names};
+ghost use Rattle.line.specs.Reads.{front, pace, next_field, formed, read, past, seen, seen_in, as_read, as_word, as_number, as_price, as_names};
 
 use crate::faults::ReadFault;
 use crate::parts::Part;
@@ -32,7 +33,7 @@ fn take_field<'a>(line: &'a [u8], place: &mut Place) -> &'a [u8]
 fn word<'a>(text: &'a [u8], at: usize) -> Part<'a>
     ensures { seen result ≡ as_word text.now at text.now }
 {
-    if text.len() == 0 {
+    if text.is_empty() {
         Part::Blank { at }
     } else {
         Part::Word { text, at }
@@ -109,24 +110,33 @@ impl<'a> Reader<'a> {
         }
     }
 
-    // The value that a field writes by its form.
-    pub fn value<F: FieldForm>(&mut self) -> Result<F, ReadFault>
-        ensures told { result ≡ read as_read F.FieldForm.form self.old.place self.old.line.now }
+    // The field at the place, by what `said` answers of its bytes: where it answers nothing, the field lacks its form.
+    fn field<T, F: FnOnce(&'a [u8]) -> Option<T>>(&mut self, said: F) -> Result<T, ReadFault>
+        requires { F.IsAlwaysCallable said }
+        ensures told { (answer : Option T)
+            × FnOnceReturnsAt F.FnOnce said (front (drop self.old.place.at self.old.line.now)) answer
+            × (result ≡ formed (λ v. v) answer (next_field self.old.place.field) self.old.place.at) }
         ensures place { self.new.place ≡ past self.old.place self.old.line.now result }
         ensures line { self.new.line.now ≡ self.old.line.now }
     {
         let start = self.place;
         let mut guard = Rewind {
             place: &mut self.place,
-            start,
-            kept: false,
+            back: Some(start),
         };
         let text = take_field(self.line, guard.place);
-        let Some(value) = F::said_by(text) else {
-            return Err(lacks_form(start));
-        };
-        guard.kept = true;
+        let value = said(text).ok_or(lacks_form(start))?;
+        guard.back = None;
         Ok(value)
+    }
+
+    // The value that a field writes by its form.
+    pub fn value<F: FieldForm>(&mut self) -> Result<F, ReadFault>
+        ensures told { result ≡ read as_read F.FieldForm.form self.old.place self.old.line.now }
+        ensures place { self.new.place ≡ past self.old.place self.old.line.now result }
+        ensures line { self.new.line.now ≡ self.old.line.now }
+    {
+        self.field(|text| F::said_by(text))
     }
 
     // From `least` to `most` id bytes.
@@ -135,18 +145,8 @@ impl<'a> Reader<'a> {
         ensures place { self.new.place ≡ past self.old.place self.old.line.now result }
         ensures line { self.new.line.now ≡ self.old.line.now }
     {
-        let start = self.place;
-        let mut guard = Rewind {
-            place: &mut self.place,
-            start,
-            kept: false,
-        };
-        let text = take_field(self.line, guard.place);
-        if !is_id(text, least, most) {
-            return Err(lacks_form(start));
-        }
-        guard.kept = true;
-        Ok(word(text, start.at))
+        let at = self.place.at;
+        self.field(|text| is_id(text, least, most).then(|| word(text, at)))
     }
 
     // Four capital letters or digits.
@@ -155,18 +155,8 @@ impl<'a> Reader<'a> {
         ensures place { self.new.place ≡ past self.old.place self.old.line.now result }
         ensures line { self.new.line.now ≡ self.old.line.now }
     {
-        let start = self.place;
-        let mut guard = Rewind {
-            place: &mut self.place,
-            start,
-            kept: false,
-        };
-        let text = take_field(self.line, guard.place);
-        if !is_venue(text) {
-            return Err(lacks_form(start));
-        }
-        guard.kept = true;
-        Ok(word(text, start.at))
+        let at = self.place.at;
+        self.field(|text| is_venue(text).then(|| word(text, at)))
     }
 
     // An ACER code.
@@ -175,18 +165,8 @@ impl<'a> Reader<'a> {
         ensures place { self.new.place ≡ past self.old.place self.old.line.now result }
         ensures line { self.new.line.now ≡ self.old.line.now }
     {
-        let start = self.place;
-        let mut guard = Rewind {
-            place: &mut self.place,
-            start,
-            kept: false,
-        };
-        let text = take_field(self.line, guard.place);
-        if !is_code(text) {
-            return Err(lacks_form(start));
-        }
-        guard.kept = true;
-        Ok(word(text, start.at))
+        let at = self.place.at;
+        self.field(|text| is_code(text).then(|| word(text, at)))
     }
 
     // A time in seconds.
@@ -195,21 +175,10 @@ impl<'a> Reader<'a> {
         ensures place { self.new.place ≡ past self.old.place self.old.line.now result }
         ensures line { self.new.line.now ≡ self.old.line.now }
     {
-        let start = self.place;
-        let mut guard = Rewind {
-            place: &mut self.place,
-            start,
-            kept: false,
-        };
-        let text = take_field(self.line, guard.place);
-        let Some(value) = time_of(text) else {
-            return Err(lacks_form(start));
-        };
-        guard.kept = true;
-        Ok(Part::Number {
-            value: value as u64,
-            text,
-            at: start.at,
+        let at = self.place.at;
+        self.field(|text| {
+            let value = time_of(text)? as u64;
+            Some(Part::Number { value, text, at })
         })
     }
 
@@ -219,21 +188,10 @@ impl<'a> Reader<'a> {
         ensures place { self.new.place ≡ past self.old.place self.old.line.now result }
         ensures line { self.new.line.now ≡ self.old.line.now }
     {
-        let start = self.place;
-        let mut guard = Rewind {
-            place: &mut self.place,
-            start,
-            kept: false,
-        };
-        let text = take_field(self.line, guard.place);
-        let Some(value) = quantity_of(text) else {
-            return Err(lacks_form(start));
-        };
-        guard.kept = true;
-        Ok(Part::Number {
-            value,
-            text,
-            at: start.at,
+        let at = self.place.at;
+        self.field(|text| {
+            let value = quantity_of(text)?;
+            Some(Part::Number { value, text, at })
         })
     }
 
@@ -243,18 +201,8 @@ impl<'a> Reader<'a> {
         ensures place { self.new.place ≡ past self.old.place self.old.line.now result }
         ensures line { self.new.line.now ≡ self.old.line.now }
     {
-        let start = self.place;
-        let mut guard = Rewind {
-            place: &mut self.place,
-            start,
-            kept: false,
-        };
-        let text = take_field(self.line, guard.place);
-        let Some(price) = price_of(text) else {
-            return Err(lacks_form(start));
-        };
-        guard.kept = true;
-        Ok(signed(price, text, start.at))
+        let at = self.place.at;
+        self.field(|text| Some(signed(price_of(text)?, text, at)))
     }
 
     // A list of names.
@@ -263,21 +211,10 @@ impl<'a> Reader<'a> {
         ensures place { self.new.place ≡ past self.old.place self.old.line.now result }
         ensures line { self.new.line.now ≡ self.old.line.now }
     {
-        let start = self.place;
-        let mut guard = Rewind {
-            place: &mut self.place,
-            start,
-            kept: false,
-        };
-        let text = take_field(self.line, guard.place);
-        let Some(names) = Names::of(text) else {
-            return Err(lacks_form(start));
-        };
-        guard.kept = true;
-        Ok(Part::Names {
-            names,
-            text,
-            at: start.at,
+        let at = self.place.at;
+        self.field(|text| {
+            let names = Names::of(text)?;
+            Some(Part::Names { names, text, at })
         })
     }
 }

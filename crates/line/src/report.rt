@@ -67,7 +67,7 @@ fn read_fields<'a>(line: &'a [u8]) -> Result<Report<'a>, ReadFault>
 pub fn read_line<'a>(line: &'a [u8]) -> Result<Report<'a>, ReadFault>
     ensures { said_in result ≡ reading line.now }
 {
-    if line.len() < 1 || line.len() > LONGEST_LINE {
+    if line.is_empty() || line.len() > LONGEST_LINE {
         return Err(ReadFault::Length);
     }
     if field_count(line) != FIELDS {

@@ -1,7 +1,6 @@
 // The marks of a run: what each of its calls had to do with lives.
 ghost use Rattle.std.specs.Prelude.{◌≡◌, ℕ, length};
 ghost use Rattle.life.specs.Rules.{is_error as an_error};
-ghost use Rattle.contract.specs.Held.{contracts_of};
 ghost use Rattle.book.specs.Book.{Book, Judge as JudgeCall, answer as book_answer};
 ghost use Rattle.calls.specs.Said.{call_said, answer_said};
 ghost use Rattle.resends.specs.Marks.{mark_parts, mark_in, MarksCall};
@@ -24,7 +23,7 @@ fn is_error(action: Action) -> bool
 
 // The mark of a judged line with its answer.
 fn line_mark(contracts: &ContractList, line: &[u8], answer: &Answer) -> Mark
-    ensures { (b : Book) (n : ℕ) → b.contracts ≡ contracts_of contracts.now → answer_said answer.now ≡ book_answer b (JudgeCall n line.now) → mark_parts result ≡ mark_in b (JudgeCall n line.now) }
+    ensures { (b : Book) (n : ℕ) → b.contracts ≡ contracts.now → answer_said answer.now ≡ book_answer b (JudgeCall n line.now) → mark_parts result ≡ mark_in b (JudgeCall n line.now) }
 {
     let Answer::Accepted = *answer else {
         return Mark::Refused;
@@ -40,7 +39,7 @@ fn line_mark(contracts: &ContractList, line: &[u8], answer: &Answer) -> Mark
 
 // The mark of a call with its answer; `contracts` are those listed then, and go on with the call.
 fn mark_of(contracts: &mut ContractList, call: &Call, answer: &Answer) -> Mark
-    ensures { (b : Book) → b.contracts ≡ contracts_of contracts.old → answer_said answer.now ≡ book_answer b (call_said call.now) → MarksCall b (call_said call.now) (mark_parts result) (contracts_of contracts.new) }
+    ensures { (b : Book) → b.contracts ≡ contracts.old → answer_said answer.now ≡ book_answer b (call_said call.now) → MarksCall b (call_said call.now) (mark_parts result) contracts.new }
 {
     match *call {
         Call::AddContract(text) => {

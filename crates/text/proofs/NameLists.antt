@@ -68,18 +68,11 @@ module _ (i at n : ℕ) (s : Bytes)
       ∙ ap (λ t. few_names (8 - (i + 1)) (pieces 44 t)) (drop-drop (n + 1) at s)
 
 -- the first name of a list and the others
-pub first_listed : (n : ℕ) (t : Bytes) → n ≡ span_to 44 t → Some (take (n - 0) t) ≡ first_name (pieces 44 t)
-first_listed n t e = ap (λ m. Some (take m t)) (omega arith) ∙ sym (ap first_name (first_after 44 t))
+pub first_listed : (n : ℕ) (t : Bytes) → n ≡ span_to 44 t → first_name (pieces 44 t) ≡ Some (take n t)
+first_listed n t e = ap first_name (first_after 44 t) ∙ ap (λ m. Some (take m t)) (sym e)
 
-pub last_listed : (n : ℕ) (t : Bytes) → n ≡ span_to 44 t → length (take (length t - n) (drop n t)) ≡ 0 → [] ≡ drop 1 (pieces 44 t)
-last_listed n t e l =
-    let k = ap length (take_rest t n) in
-    sym (ap (drop 1) (piece_alone 44 t (omega (arith, length-drop n t))))
+pub last_listed : (n : ℕ) (t : Bytes) → n ≡ span_to 44 t → length t ≤ n → drop 1 (pieces 44 t) ≡ []
+last_listed n t e l = ap (drop 1) (piece_alone 44 t (omega arith))
 
-pub rest_listed : (n : ℕ) (t : Bytes) → n ≡ span_to 44 t → 0 < length (take (length t - n) (drop n t))
-    → (let r = take (length t - n) (drop n t) in pieces 44 (take (length r - 1) (drop 1 r)) ≡ drop 1 (pieces 44 t))
-rest_listed n t e l =
-    let r = take (length t - n) (drop n t) in
-    let k = ap length (take_rest t n) in
-    ap (pieces 44) (take_rest r 1 ∙ ap (drop 1) (take_rest t n) ∙ drop-drop 1 n t ∙ ap (λ m. drop (m + 1) t) e)
-    ∙ sym (ap (drop 1) (piece_and_more 44 t (omega (arith, length-drop n t))))
+pub rest_listed : (n : ℕ) (t : Bytes) → n ≡ span_to 44 t → n < length t → drop 1 (pieces 44 t) ≡ pieces 44 (drop (n + 1) t)
+rest_listed n t e l = ap (drop 1) (piece_and_more 44 t (omega arith)) ∙ ap (λ m. pieces 44 (drop (m + 1) t)) (sym e)

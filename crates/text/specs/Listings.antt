@@ -2,12 +2,15 @@
 use Rattle.std.specs.Prelude.{List, [], ◌∷◌, Some, None, Option}
 use Rattle.std.specs.Borrow.{Bor}
 use Rattle.text.specs.declared.names.Names.{Names}
-use Rattle.text.specs.declared.names.Names.TheVariants as names
 use Rattle.text.specs.Bytes.{Bytes, pieces}
 
+-- the names that a text separates by commas, if there is a text
+abbrev pub separated : Option (Bor Bytes) → List Bytes
+separated None = []
+separated (Some t) = pieces 44 t.now
+
 abbrev pub listing : Names → List Bytes
-listing names.None = []
-listing (names.Listed t) = pieces 44 t.now
+listing ns = separated ns.listed
 
 abbrev pub listing_in : Option Names → Option (List Bytes)
 listing_in None = None

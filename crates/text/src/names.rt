@@ -1,5 +1,6 @@
 // Lists of names: 0 to 8 of them, separated by commas, each formed like an id.
-ghost use Rattle.std.specs.Prelude.{◌≡◌, ◌+◌, drop};
+ghost use Rattle.std.specs.Prelude.{◌≡◌, ◌+◌, [], drop};
+ghost use Rattle.std.specs.Iterator.{YieldsFirstRef, item_count};
 ghost use Rattle.text.specs.Bytes.{pieces};
 ghost use Rattle.text.specs.Forms.{a_name, few_names, names_form};
 ghost use Rattle.text.specs.Listings.{listing, listing_in, first_name, first_in};
@@ -9,9 +10,8 @@ use crate::cuts::span_to;
 
 // The names in a part of a line: none, or those that its commas separate.
 #[derive(Clone, Copy)]
-pub enum Names<'a> {
-    None,
-    Listed(&'a [u8]),
+pub struct Names<'a> {
+    listed: Option<&'a [u8]>,
 }
 
 const MOST_NAMES: usize = 8;
@@ -44,41 +44,52 @@ fn are_names(text: &[u8]) -> bool
 }
 
 impl<'a> Names<'a> {
+    // No names.
+    pub fn none() -> Names<'a>
+        ensures { listing result ≡ [] }
+    {
+        Names { listed: None }
+    }
+
     // The names that a text lists, if it has that form.
     pub fn of(text: &'a [u8]) -> Option<Names<'a>>
         ensures { listing_in result ≡ names_form text.now }
     {
-        if text.len() == 0 {
-            return Some(Names::None);
+        if text.is_empty() {
+            return Some(Names::none());
         }
-        if are_names(text) {
-            Some(Names::Listed(text))
-        } else {
-            None
-        }
+        are_names(text).then_some(Names { listed: Some(text) })
     }
 
     // The first name.
     pub fn first(&self) -> Option<&'a [u8]>
         ensures { first_in result ≡ first_name (listing self.now) }
     {
-        match *self {
-            Names::None => None,
-            Names::Listed(text) => Some(&text[0..span_to(text, b',')]),
-        }
+        self.listed.map(|text| &text[..span_to(text, b',')])
     }
 
     // The names after the first.
     pub fn rest(&self) -> Names<'a>
         ensures { listing result ≡ drop 1 (listing self.now) }
     {
-        let Names::Listed(text) = *self else {
-            return Names::None;
-        };
-        let rest = &text[span_to(text, b',')..];
-        if rest.len() == 0 {
-            return Names::None;
+        Names {
+            listed: self
+                .listed
+                .and_then(|text| text.get(span_to(text, b',') + 1..)),
         }
-        Names::Listed(&rest[1..])
+    }
+}
+
+impl<'a> Iterator for Names<'a> {
+    type Item = &'a [u8];
+
+    ghost next_gives = { YieldsFirstRef listing };
+
+    ghost remaining = { item_count listing };
+
+    fn next(&mut self) -> Option<&'a [u8]> {
+        let name = self.first()?;
+        *self = self.rest();
+        Some(name)
     }
 }

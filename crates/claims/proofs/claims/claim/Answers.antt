@@ -2,17 +2,16 @@ use Rattle.std.proofs.Common.{refl}
 use Rattle.life.specs.Acts.{life_in}
 use Rattle.life.specs.Keys.{parts_in}
 use Rattle.life.specs.Parts.{key_parts, life_parts}
-use Rattle.contract.specs.Held.{contracts_of}
 use Rattle.claims.proofs.Sizes.{some_made, made_is}
 use Rattle.claims.proofs.Tables.{by_line, by_list, by_none, key_made, life_made}
 use Rattle.claims.proofs.claims.claim.Goals as goal
 
 pub returns-in_err-report : goal.returns-in_err-report
-returns-in_err-report c = by_line (contracts_of c.args.contracts.now) c.args.line.now _ _ c.from_residual.ensures.1 c.in_err-report.ensures
+returns-in_err-report c = by_line c.args.contracts.now c.args.line.now _ _ c.from_residual.ensures.1 c.in_err-report.ensures
 
 pub returns-in-Err : goal.returns-in-Err
 returns-in-Err c =
-    by_list (contracts_of c.args.contracts.now) c.args.line.now c.in_ok-report.report c.in_ok-report.ensures
+    by_list c.args.contracts.now c.args.line.now c.in_ok-report.report c.in_ok-report.ensures
     c.in-Err.fault _ _ c.field.ensures c.field_offset.ensures c.in-Err.ensures.told
 
 pub unwrap-key-requires : goal.unwrap-key-requires
@@ -27,7 +26,7 @@ unwrap-told-requires c =
 
 pub returns : goal.returns
 returns c =
-    let cs = contracts_of c.args.contracts.now in
+    let cs = c.args.contracts.now in
     let bs = c.args.line.now in
     let r = c.in_ok-report.report in
     let e = c.in_ok-report.ensures in

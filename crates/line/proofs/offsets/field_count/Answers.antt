@@ -1,12 +1,8 @@
-use Rattle.std.proofs.Common.{arith}
-use Rattle.std.proofs.lemmas.List.{take_all}
-use Rattle.std.proofs.lemmas.List.Sums.{count_by_more_yes, count_by_more_no}
-use Rattle.std.proofs.lemmas.Bool.Decides.{nat_tests}
-use Rattle.line.proofs.Fields.{one_more}
+use Rattle.std.proofs.Common.{◌≡◌, rules, arith}
+use Rattle.line.proofs.Fields.{separators_in, one_more}
 use Rattle.line.proofs.offsets.field_count.Goals as goal
 
-pub loop-b-preserved : goal.loop-b-preserved
-loop-b-preserved c = grind (arith, nat_tests, count_by_more_yes, count_by_more_no)
-
 pub returns : goal.returns
-returns c = let n = one_more c.args.text.now in grind (arith, take_all)
+returns c =
+    let counted : c.count.result ≡ separators_in c.args.text.now = search rules in
+    omega (arith, counted, one_more c.args.text.now)

@@ -25,88 +25,55 @@ past_kind c =
     let p = c.in_ok-kind.ensures in
     onward as_read kind_form 0 (omega arith) (omega (arith, c.requires)) (at_kind (goal.at.In_ok-kind c).After-new-reader) p.told p.place p.line
 
-at_id : (c : goal.In_ok-kind) → At c.args.line.now 1 c.value.new.self.place c.value.new.self.line.now
-at_id c = (past_kind c).0
-
 past_id : (c : goal.In_ok-id) → At c.args.line.now 2 c.id.new.self.place c.id.new.self.line.now × Says as_word (id_form 1 52) 1 c.args.line.now (seen c.in_ok-id.id)
 past_id c =
     let p = c.in_ok-id.ensures in
-    onward as_word (id_form 1 52) 1 (omega arith) (omega (arith, c.requires)) (at_id (goal.at.In_ok-id c).In_ok-kind) p.told p.place p.line
-
-at_contract : (c : goal.In_ok-id) → At c.args.line.now 2 c.id.new.self.place c.id.new.self.line.now
-at_contract c = (past_id c).0
+    onward as_word (id_form 1 52) 1 (omega arith) (omega (arith, c.requires)) (past_kind (goal.at.In_ok-id c).In_ok-kind).0 p.told p.place p.line
 
 past_contract : (c : goal.In_ok-contract) → At c.args.line.now 3 c.id-2.new.self.place c.id-2.new.self.line.now × Says as_word (id_form 0 32) 2 c.args.line.now (seen c.in_ok-contract.contract)
 past_contract c =
     let p = c.in_ok-contract.ensures in
-    onward as_word (id_form 0 32) 2 (omega arith) (omega (arith, c.requires)) (at_contract (goal.at.In_ok-contract c).In_ok-id) p.told p.place p.line
-
-at_venue : (c : goal.In_ok-contract) → At c.args.line.now 3 c.id-2.new.self.place c.id-2.new.self.line.now
-at_venue c = (past_contract c).0
+    onward as_word (id_form 0 32) 2 (omega arith) (omega (arith, c.requires)) (past_id (goal.at.In_ok-contract c).In_ok-id).0 p.told p.place p.line
 
 past_venue : (c : goal.In_ok-venue) → At c.args.line.now 4 c.venue.new.self.place c.venue.new.self.line.now × Says as_word venue_form 3 c.args.line.now (seen c.in_ok-venue.venue)
 past_venue c =
     let p = c.in_ok-venue.ensures in
-    onward as_word venue_form 3 (omega arith) (omega (arith, c.requires)) (at_venue (goal.at.In_ok-venue c).In_ok-contract) p.told p.place p.line
-
-at_participant : (c : goal.In_ok-venue) → At c.args.line.now 4 c.venue.new.self.place c.venue.new.self.line.now
-at_participant c = (past_venue c).0
+    onward as_word venue_form 3 (omega arith) (omega (arith, c.requires)) (past_contract (goal.at.In_ok-venue c).In_ok-contract).0 p.told p.place p.line
 
 past_participant : (c : goal.In_ok-participant) → At c.args.line.now 5 c.code.new.self.place c.code.new.self.line.now × Says as_word code_form 4 c.args.line.now (seen c.in_ok-participant.participant)
 past_participant c =
     let p = c.in_ok-participant.ensures in
-    onward as_word code_form 4 (omega arith) (omega (arith, c.requires)) (at_participant (goal.at.In_ok-participant c).In_ok-venue) p.told p.place p.line
-
-at_side : (c : goal.In_ok-participant) → At c.args.line.now 5 c.code.new.self.place c.code.new.self.line.now
-at_side c = (past_participant c).0
+    onward as_word code_form 4 (omega arith) (omega (arith, c.requires)) (past_venue (goal.at.In_ok-participant c).In_ok-venue).0 p.told p.place p.line
 
 past_side : (c : goal.In_ok-side) → At c.args.line.now 6 c.value-2.new.self.place c.value-2.new.self.line.now × Says as_read side_form 5 c.args.line.now c.in_ok-side.side
 past_side c =
     let p = c.in_ok-side.ensures in
-    onward as_read side_form 5 (omega arith) (omega (arith, c.requires)) (at_side (goal.at.In_ok-side c).In_ok-participant) p.told p.place p.line
-
-at_action : (c : goal.In_ok-side) → At c.args.line.now 6 c.value-2.new.self.place c.value-2.new.self.line.now
-at_action c = (past_side c).0
+    onward as_read side_form 5 (omega arith) (omega (arith, c.requires)) (past_participant (goal.at.In_ok-side c).In_ok-participant).0 p.told p.place p.line
 
 past_action : (c : goal.In_ok-action) → At c.args.line.now 7 c.value-3.new.self.place c.value-3.new.self.line.now × Says as_read action_form 6 c.args.line.now c.in_ok-action.action
 past_action c =
     let p = c.in_ok-action.ensures in
-    onward as_read action_form 6 (omega arith) (omega (arith, c.requires)) (at_action (goal.at.In_ok-action c).In_ok-side) p.told p.place p.line
-
-at_time : (c : goal.In_ok-action) → At c.args.line.now 7 c.value-3.new.self.place c.value-3.new.self.line.now
-at_time c = (past_action c).0
+    onward as_read action_form 6 (omega arith) (omega (arith, c.requires)) (past_side (goal.at.In_ok-action c).In_ok-side).0 p.told p.place p.line
 
 past_time : (c : goal.In_ok-time) → At c.args.line.now 8 c.time.new.self.place c.time.new.self.line.now × Says as_number time_form 7 c.args.line.now (seen c.in_ok-time.time)
 past_time c =
     let p = c.in_ok-time.ensures in
-    onward as_number time_form 7 (omega arith) (omega (arith, c.requires)) (at_time (goal.at.In_ok-time c).In_ok-action) p.told p.place p.line
-
-at_quantity : (c : goal.In_ok-time) → At c.args.line.now 8 c.time.new.self.place c.time.new.self.line.now
-at_quantity c = (past_time c).0
+    onward as_number time_form 7 (omega arith) (omega (arith, c.requires)) (past_action (goal.at.In_ok-time c).In_ok-action).0 p.told p.place p.line
 
 past_quantity : (c : goal.In_ok-quantity) → At c.args.line.now 9 c.quantity.new.self.place c.quantity.new.self.line.now × Says as_number quantity_form 8 c.args.line.now (seen c.in_ok-quantity.quantity)
 past_quantity c =
     let p = c.in_ok-quantity.ensures in
-    onward as_number quantity_form 8 (omega arith) (omega (arith, c.requires)) (at_quantity (goal.at.In_ok-quantity c).In_ok-time) p.told p.place p.line
-
-at_price : (c : goal.In_ok-quantity) → At c.args.line.now 9 c.quantity.new.self.place c.quantity.new.self.line.now
-at_price c = (past_quantity c).0
+    onward as_number quantity_form 8 (omega arith) (omega (arith, c.requires)) (past_time (goal.at.In_ok-quantity c).In_ok-time).0 p.told p.place p.line
 
 past_price : (c : goal.In_ok-price) → At c.args.line.now 10 c.price.new.self.place c.price.new.self.line.now × Says as_price price_form 9 c.args.line.now (seen c.in_ok-price.price)
 past_price c =
     let p = c.in_ok-price.ensures in
-    onward as_price price_form 9 (omega arith) (omega (arith, c.requires)) (at_price (goal.at.In_ok-price c).In_ok-quantity) p.told p.place p.line
-
-at_names : (c : goal.In_ok-price) → At c.args.line.now 10 c.price.new.self.place c.price.new.self.line.now
-at_names c = (past_price c).0
+    onward as_price price_form 9 (omega arith) (omega (arith, c.requires)) (past_quantity (goal.at.In_ok-price c).In_ok-quantity).0 p.told p.place p.line
 
 past_names : (c : goal.In_ok-names) → At c.args.line.now 11 c.names.new.self.place c.names.new.self.line.now × Says as_names names_form 10 c.args.line.now (seen c.in_ok-names.names)
 past_names c =
     let p = c.in_ok-names.ensures in
-    onward as_names names_form 10 (omega arith) (omega (arith, c.requires)) (at_names (goal.at.In_ok-names c).In_ok-price) p.told p.place p.line
-
-at_end : (c : goal.In_ok-names) → At c.args.line.now 11 c.names.new.self.place c.names.new.self.line.now
-at_end c = (past_names c).0
+    onward as_names names_form 10 (omega arith) (omega (arith, c.requires)) (past_price (goal.at.In_ok-names c).In_ok-price).0 p.told p.place p.line
 
 pub returns-in_err-kind : goal.returns-in_err-kind
 returns-in_err-kind c =
@@ -114,43 +81,43 @@ returns-in_err-kind c =
 
 pub returns-in_err-id : goal.returns-in_err-id
 returns-in_err-id c =
-    stops 1 _ _ c.from_residual-in_err-id.ensures.1 (stopped as_word (id_form 1 52) 1 (omega arith) (omega (arith, c.requires)) (at_id (goal.at.returns-in_err-id c).In_ok-kind) c.in_err-id.ensures.told)
+    stops 1 _ _ c.from_residual-in_err-id.ensures.1 (stopped as_word (id_form 1 52) 1 (omega arith) (omega (arith, c.requires)) (past_kind (goal.at.returns-in_err-id c).In_ok-kind).0 c.in_err-id.ensures.told)
 
 pub returns-in_err-contract : goal.returns-in_err-contract
 returns-in_err-contract c =
-    stops 2 _ _ c.from_residual-in_err-contract.ensures.1 (stopped as_word (id_form 0 32) 2 (omega arith) (omega (arith, c.requires)) (at_contract (goal.at.returns-in_err-contract c).In_ok-id) c.in_err-contract.ensures.told)
+    stops 2 _ _ c.from_residual-in_err-contract.ensures.1 (stopped as_word (id_form 0 32) 2 (omega arith) (omega (arith, c.requires)) (past_id (goal.at.returns-in_err-contract c).In_ok-id).0 c.in_err-contract.ensures.told)
 
 pub returns-in_err-venue : goal.returns-in_err-venue
 returns-in_err-venue c =
-    stops 3 _ _ c.from_residual-in_err-venue.ensures.1 (stopped as_word venue_form 3 (omega arith) (omega (arith, c.requires)) (at_venue (goal.at.returns-in_err-venue c).In_ok-contract) c.in_err-venue.ensures.told)
+    stops 3 _ _ c.from_residual-in_err-venue.ensures.1 (stopped as_word venue_form 3 (omega arith) (omega (arith, c.requires)) (past_contract (goal.at.returns-in_err-venue c).In_ok-contract).0 c.in_err-venue.ensures.told)
 
 pub returns-in_err-participant : goal.returns-in_err-participant
 returns-in_err-participant c =
-    stops 4 _ _ c.from_residual-in_err-participant.ensures.1 (stopped as_word code_form 4 (omega arith) (omega (arith, c.requires)) (at_participant (goal.at.returns-in_err-participant c).In_ok-venue) c.in_err-participant.ensures.told)
+    stops 4 _ _ c.from_residual-in_err-participant.ensures.1 (stopped as_word code_form 4 (omega arith) (omega (arith, c.requires)) (past_venue (goal.at.returns-in_err-participant c).In_ok-venue).0 c.in_err-participant.ensures.told)
 
 pub returns-in_err-side : goal.returns-in_err-side
 returns-in_err-side c =
-    stops 5 _ _ c.from_residual-in_err-side.ensures.1 (stopped as_read side_form 5 (omega arith) (omega (arith, c.requires)) (at_side (goal.at.returns-in_err-side c).In_ok-participant) c.in_err-side.ensures.told)
+    stops 5 _ _ c.from_residual-in_err-side.ensures.1 (stopped as_read side_form 5 (omega arith) (omega (arith, c.requires)) (past_participant (goal.at.returns-in_err-side c).In_ok-participant).0 c.in_err-side.ensures.told)
 
 pub returns-in_err-action : goal.returns-in_err-action
 returns-in_err-action c =
-    stops 6 _ _ c.from_residual-in_err-action.ensures.1 (stopped as_read action_form 6 (omega arith) (omega (arith, c.requires)) (at_action (goal.at.returns-in_err-action c).In_ok-side) c.in_err-action.ensures.told)
+    stops 6 _ _ c.from_residual-in_err-action.ensures.1 (stopped as_read action_form 6 (omega arith) (omega (arith, c.requires)) (past_side (goal.at.returns-in_err-action c).In_ok-side).0 c.in_err-action.ensures.told)
 
 pub returns-in_err-time : goal.returns-in_err-time
 returns-in_err-time c =
-    stops 7 _ _ c.from_residual-in_err-time.ensures.1 (stopped as_number time_form 7 (omega arith) (omega (arith, c.requires)) (at_time (goal.at.returns-in_err-time c).In_ok-action) c.in_err-time.ensures.told)
+    stops 7 _ _ c.from_residual-in_err-time.ensures.1 (stopped as_number time_form 7 (omega arith) (omega (arith, c.requires)) (past_action (goal.at.returns-in_err-time c).In_ok-action).0 c.in_err-time.ensures.told)
 
 pub returns-in_err-quantity : goal.returns-in_err-quantity
 returns-in_err-quantity c =
-    stops 8 _ _ c.from_residual-in_err-quantity.ensures.1 (stopped as_number quantity_form 8 (omega arith) (omega (arith, c.requires)) (at_quantity (goal.at.returns-in_err-quantity c).In_ok-time) c.in_err-quantity.ensures.told)
+    stops 8 _ _ c.from_residual-in_err-quantity.ensures.1 (stopped as_number quantity_form 8 (omega arith) (omega (arith, c.requires)) (past_time (goal.at.returns-in_err-quantity c).In_ok-time).0 c.in_err-quantity.ensures.told)
 
 pub returns-in_err-price : goal.returns-in_err-price
 returns-in_err-price c =
-    stops 9 _ _ c.from_residual-in_err-price.ensures.1 (stopped as_price price_form 9 (omega arith) (omega (arith, c.requires)) (at_price (goal.at.returns-in_err-price c).In_ok-quantity) c.in_err-price.ensures.told)
+    stops 9 _ _ c.from_residual-in_err-price.ensures.1 (stopped as_price price_form 9 (omega arith) (omega (arith, c.requires)) (past_quantity (goal.at.returns-in_err-price c).In_ok-quantity).0 c.in_err-price.ensures.told)
 
 pub returns-in_err-names : goal.returns-in_err-names
 returns-in_err-names c =
-    stops 10 _ _ c.from_residual-in_err-names.ensures.1 (stopped as_names names_form 10 (omega arith) (omega (arith, c.requires)) (at_names (goal.at.returns-in_err-names c).In_ok-price) c.in_err-names.ensures.told)
+    stops 10 _ _ c.from_residual-in_err-names.ensures.1 (stopped as_names names_form 10 (omega arith) (omega (arith, c.requires)) (past_price (goal.at.returns-in_err-names c).In_ok-price).0 c.in_err-names.ensures.told)
 
 pub overflow_cast-result : goal.overflow_cast-result
 overflow_cast-result c =
@@ -184,4 +151,4 @@ returns c =
       price = read_value None s-price.1 (c.signed.ensures ∙ ap signed_of s-price.2 ∙ price_signed _ _ s-price.0) i;
       names = read_value [] s-names.1 (c.names-2.ensures ∙ ap names_of s-names.2) i;
     }))
-    ∙ sym (at_end h.In_ok-names).is
+    ∙ sym (past_names h.In_ok-names).0.is

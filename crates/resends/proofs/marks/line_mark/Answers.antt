@@ -1,5 +1,4 @@
 use Rattle.std.proofs.Common.{sym, ap, ◌∙◌}
-use Rattle.contract.specs.Held.{contracts_of}
 use Rattle.calls.specs.Said.{answer_said}
 use Rattle.resends.proofs.Lines.{refused_line, accepted_line, no_claim}
 use Rattle.resends.proofs.marks.line_mark.Goals as goal
@@ -9,8 +8,8 @@ returns-in_default c b n same e = refused_line b n c.args.line.now c.args.answer
 
 pub returns-in-Ok : goal.returns-in-Ok
 returns-in-Ok c b n same e =
-    accepted_line b n c.args.line.now (contracts_of c.args.contracts.now) c.in-Ok.claim c.is_error.result same (sym (ap answer_said c.in-Accepted.is) ∙ e) c.in-Ok.ensures c.is_error.ensures
+    accepted_line b n c.args.line.now c.args.contracts.now c.in-Ok.claim c.is_error.result same (sym (ap answer_said c.in-Accepted.is) ∙ e) c.in-Ok.ensures c.is_error.ensures
 
 pub returns-in-Err : goal.returns-in-Err
 returns-in-Err c b n same e =
-    absurd (no_claim b n c.args.line.now (contracts_of c.args.contracts.now) c.in-Err.field-0 same (sym (ap answer_said c.in-Accepted.is) ∙ e) c.in-Err.ensures)
+    absurd (no_claim b n c.args.line.now c.args.contracts.now c.in-Err.field-0 same (sym (ap answer_said c.in-Accepted.is) ∙ e) c.in-Err.ensures)

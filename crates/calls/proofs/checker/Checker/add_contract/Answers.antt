@@ -1,4 +1,3 @@
-use Rattle.contract.specs.Held.{contracts_of}
 use Rattle.book.specs.Book.{AddContract}
 use Rattle.calls.specs.Held.{book_in}
 use Rattle.calls.specs.Said.{contract_answer}
@@ -12,4 +11,4 @@ returns g c =
     let s = g.S.Store in
     let was = c.args.self.now in
     continues s.room s.pairs s.unique m.laws m.weight was (record { register = was.register; entities = was.entities; contracts = c.add.new.self; files = was.files }) (AddContract c.args.text.now) (contract_answer c.add.result)
-    (contract_step m.nil m.joined m.weight (book_in s.room s.pairs was) was.register.total c.args.text.now c.add.result (contracts_of c.add.new.self) c.add.ensures.told c.add.ensures.list)
+    (contract_step m.nil m.joined m.weight (book_in s.room s.pairs was) was.register.total c.args.text.now c.add.result c.add.new.self c.add.ensures.told c.add.ensures.list)

@@ -6,11 +6,9 @@ use Rattle.text.specs.Texts.{texts_of}
 use Rattle.contract.proofs.held.NameList.of.Given as goal
 
 abbrev pub invariant-loop-name : goal.invariant-loop-name
-invariant-loop-name l =
-    (length l.texts ≡ 8)
-    × (l.count + length (listing l.rest) ≤ 8)
-    × (every a_name (listing l.rest) ≡ true)
-    × (texts_of (take l.count l.texts) ++ listing l.rest ≡ listing l.names)
-
-abbrev pub decreases-loop-name : goal.decreases-loop-name
-decreases-loop-name l = length (listing l.rest)
+invariant-loop-name l = record {
+  whole : length l.texts ≡ 8;
+  room : l.count + length (listing l.name-iterator) ≤ 8;
+  named : every a_name (listing l.name-iterator) ≡ true;
+  all : texts_of (take l.count l.texts) ++ listing l.name-iterator ≡ listing l.fn.names;
+}

@@ -1,27 +1,28 @@
-use Rattle.std.proofs.Common.{◌+◌, map, sym, ◌∙◌, arith}
-use Rattle.std.proofs.lemmas.List.{at_drop_all}
-use Rattle.contract.specs.ContractList.{numbered}
-use Rattle.contract.specs.Held.{contract_of}
-use Rattle.contract.proofs.Searches.{search_more}
+use Rattle.std.proofs.Common.{◌≡◌, ◌+◌, Some, None, sym, ap, ◌∙◌, rules, arith}
+use Rattle.std.specs.List.{position}
+use Rattle.std.proofs.lemmas.Iterator.Adapters.{position_from-zero}
+use Rattle.std.proofs.lemmas.List.Quantifiers.{position-Some}
+use Rattle.contract.specs.ContractList.{listed}
+use Rattle.contract.specs.Held.{contract_of, has_id, found_in}
+use Rattle.contract.proofs.Searches.{found_at, none_found}
 use Rattle.contract.proofs.list.ContractList.find.Goals as goal
 
-pub returns-then-same_bytes : goal.returns-then-same_bytes
-returns-then-same_bytes c =
-    record {
-      told =
-          sym (sym c.loop-i.invariant
-          ∙ search_more c.as_slice-contracts.result.now c.args.id.now _ c.loop-i.i _ _ c.loop-i-test.true c.index-contracts-i.is c.as_slice.ensures c.if-same_bytes.ensures);
-      small = omega (arith, c.as_slice-contracts.ensures.len);
-    }
+pub returns-in_err-at-clause-told : goal.returns-in_err-at-clause-told
+returns-in_err-at-clause-told c =
+    let held = c.self.inside.contracts.items in
+    let id = c.args.id.now in
+    let none : position (has_id id) held ≡ None = search rules in
+    ap found_in c.from_residual.ensures ∙ sym (none_found 1 0 held id (sym (position_from-zero (has_id id) held) ∙ none)) ∙ ap (λ cs. listed cs id) c.self.view_is
 
-pub loop-i-preserved : goal.loop-i-preserved
-loop-i-preserved c =
-    sym (search_more c.as_slice-contracts.result.now c.args.id.now _ c.loop-i.i _ _ c.loop-i-test.true c.index-contracts-i.is c.as_slice.ensures c.if-same_bytes.ensures)
-    ∙ c.loop-i.invariant
-
-pub returns : goal.returns
-returns c =
-    record {
-      told = sym (sym c.loop-i.invariant ∙ at_drop_all (λ ys. numbered (c.loop-i.i + 1) (map contract_of ys) c.args.id.now) c.as_slice-contracts.result.now c.loop-i.i c.loop-i-test.false);
-      small = tt;
-    }
+pub returns-clause-told : goal.returns-clause-told
+returns-clause-told c =
+    let held = c.self.inside.contracts.items in
+    let id = c.args.id.now in
+    let at = c.in_ok-at.at in
+    let x = c.index.result.now in
+    let some : position (has_id id) held ≡ Some at = search rules in
+    let p = position-Some (has_id id) held at x some in
+    let n : at + 1 ≡ 1 + at = omega arith in
+    (λ i. Some (n i, contract_of (c.index.ensures i)))
+    ∙ sym (found_at 1 held id at x p.0 p.1 p.2)
+    ∙ ap (λ cs. listed cs id) c.self.view_is

@@ -1,17 +1,16 @@
-use Rattle.std.proofs.Common.{◌≤◌, map, arith}
-use Rattle.std.proofs.lemmas.List.{at_drop_all}
-use Rattle.contract.specs.ContractList.{names_in}
-use Rattle.contract.specs.Held.{contract_of}
-use Rattle.contract.proofs.Searches.{count_more}
+use Rattle.std.proofs.Common.{◌≡◌, ◌^◌, ◌≤◌, length, sum_by, rules, arith}
+use Rattle.std.proofs.lemmas.Iterator.{YieldsList-from_slice}
+use Rattle.std.proofs.lemmas.Iterator.Adapters.{fits_from_length, at_most_from_yields_List}
+use Rattle.contract.specs.declared.held.HeldContract.{HeldContract}
+use Rattle.contract.proofs.Searches.{eight_each}
 use Rattle.contract.proofs.list.ContractList.name_count.Goals as goal
 
-pub loop-contract-preserved : goal.loop-contract-preserved
-loop-contract-preserved c =
-    let m = count_more c.as_slice-contracts.result.now c.loop-contract.contract-index c.contract-item.result c.loop-contract-test.true c.contract-item.is in
-    let few : c.contract-item.result.names.count ≤ 8 = omega arith in
-    (omega arith, omega (arith, c.loop-contract.invariant.1, m))
+pub sum-requires-clause-fits : goal.sum-requires-clause-fits
+sum-requires-clause-fits c =
+    let few : length c.deref.result.now ≤ 63 = omega arith in
+    fits_from_length _ _ 63 (2 ^ 64) (at_most_from_yields_List (YieldsList-from_slice c.deref.result.now cc) few) c.map.ensures.closure (omega arith) (λ x r q k. search rules)
 
-pub returns : goal.returns
-returns c =
-    let e = at_drop_all (λ ys. names_in (map contract_of ys)) c.as_slice-contracts.result.now c.loop-contract.contract-index c.loop-contract-test.false in
-    record { value = omega (arith, c.loop-contract.invariant.1, e); small = omega (arith, c.as_slice-contracts.ensures.len) }
+pub returns-clause-small : goal.returns-clause-small
+returns-clause-small c =
+    let counted : c.sum.result ≡ sum_by (λ (c : HeldContract). c.names.count) c.self.inside.contracts.items = search rules in
+    omega (arith, counted, eight_each c.self.inside.contracts.items)
