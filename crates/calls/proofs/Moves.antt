@@ -14,7 +14,8 @@ use Rattle.files.specs.declared.faults.IdentifyFault.{IdentifyFault}
 use Rattle.files.specs.declared.faults.NamingError.{NamingError}
 use Rattle.files.specs.declared.faults.NamingError.TheVariants.{Fault, NoMemory}
 use Rattle.files.specs.declared.faults.PlaceFault.{PlaceFault}
-use Rattle.files.specs.declared.named_file.NamedFile.{NamedFile}
+use Rattle.files.specs.declared.token.FileToken.{FileToken}
+use Rattle.files.specs.declared.token.OnlyNamed.{OnlyNamed}
 use Rattle.files.specs.declared.receipt.Receipt.{Receipt}
 use Rattle.files.specs.Answers.{had_memory, name_refusal, identify_refusal, token_refusal, place_refusal, receipt_of}
 use Rattle.files.specs.Faults.{place_number}
@@ -99,7 +100,7 @@ module _ {V : Type 0} (nil : V) (joined : V → V → V) (weight : KeyParts → 
   identify_says b n bs (Ok u) v e = ap (answered b (Identify n bs)) e
   identify_says b n bs (Err f) v e = ap (answered b (Identify n bs)) e
 
-  token_says : {W : Type 0} (b : Book) (n : ℕ) (bs : Bytes) (r : Result W (IdentifyFault × NamedFile)) (v : Option (ℕ × ℕ)) → token_refusal r ≡ v → token_answer r ≡ answered b (Identify n bs) v
+  token_says : {W : Type 0} (b : Book) (n : ℕ) (bs : Bytes) (r : Result W (IdentifyFault × FileToken OnlyNamed)) (v : Option (ℕ × ℕ)) → token_refusal r ≡ v → token_answer r ≡ answered b (Identify n bs) v
   token_says b n bs (Ok w) v e = ap (answered b (Identify n bs)) e
   token_says b n bs (Err f) v e = ap (answered b (Identify n bs)) e
 
@@ -114,7 +115,7 @@ module _ {V : Type 0} (nil : V) (joined : V → V → V) (weight : KeyParts → 
       Step nil joined weight was t (Identify n bs) (identify_answer r) (with_files was fs) t
   identify_step was t n bs r fs e l = identified_step was t n bs (identify_answer r) fs (identify_says was n bs r _ e) l
 
-  pub token_step : {W : Type 0} (was : Book) (t : V) (n : ℕ) (bs : Bytes) (r : Result W (IdentifyFault × NamedFile)) (fs : List File) →
+  pub token_step : {W : Type 0} (was : Book) (t : V) (n : ℕ) (bs : Bytes) (r : Result W (IdentifyFault × FileToken OnlyNamed)) (fs : List File) →
       token_refusal r ≡ first_fit identifying_rows (was.entities, file_of was.files n, bs) → fs ≡ identified_in was.entities was.files n bs →
       Step nil joined weight was t (Identify n bs) (token_answer r) (with_files was fs) t
   token_step was t n bs r fs e l = identified_step was t n bs (token_answer r) fs (token_says was n bs r _ e) l

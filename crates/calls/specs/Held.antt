@@ -1,47 +1,38 @@
 -- What a checker holds, as a book; and the law over every history of calls that led to it.
 use Rattle.std.specs.Prelude.{◌≡◌, ℕ, List, [], ◌∷◌, ◌++◌}
-use Rattle.filing.specs.Known.{known}
-use Rattle.files.specs.Held.{files_of}
-use Rattle.life.specs.declared.key.Key.{Key}
-use Rattle.life.specs.declared.life.Life.{Life}
 use Rattle.life.specs.Parts.{KeyParts, LifeParts}
-use Rattle.life.specs.Lives.{plain}
 use Rattle.book.specs.Book.{Book, Call, Answer, answer}
 use Rattle.calls.specs.declared.checker.Checker.{Checker}
 use Rattle.calls.specs.Follows.{book_after, Follows}
 use Rattle.calls.specs.Said.{ReplyParts, reply}
 
-module _ {S M : Type 0} (room : S → ℕ) (pairs : S → List (Key × Life)) where
-  -- its lists and files, and the pairs of its store in their order there
-  abbrev pub book_in : Checker S M → Book
-  book_in c = record {
-    capacity = room c.register.store.now;
-    entities = known c.entities;
-    contracts = c.contracts;
-    files = files_of c.files;
-    lives = plain (pairs c.register.store.now);
-  }
+-- its lists and files, and the lives of its register in their order there
+abbrev pub book_in : {S M : Type 0} → Checker S M → Book
+book_in c = record {
+  capacity = c.register.room;
+  entities = c.entities;
+  contracts = c.contracts;
+  files = c.files.files;
+  lives = c.register.lives;
+}
 
-  abbrev pub total_in : Checker S M → M
-  total_in c = c.register.total
+module _ {S M : Type 0} (nil : M) (joined : M → M → M) (weight : KeyParts → LifeParts → M) where
+  -- these calls lead from a new checker with room for so many lives to this one
+  abbrev pub Led : ℕ → List Call → Checker S M → Type 0
+  Led capacity past c = Follows nil joined weight capacity past (book_in c) c.register.total
 
-  module _ (nil : M) (joined : M → M → M) (weight : KeyParts → LifeParts → M) where
-    -- these calls lead from a new checker with room for so many lives to this one
-    abbrev pub Led : ℕ → List Call → Checker S M → Type 0
-    Led capacity past c = Follows nil joined weight capacity past (book_in c) (total_in c)
+  -- for every list of calls that led to `was`, the answer is the book's after them, and they and this call lead to `is`
+  abbrev pub Continues : Checker S M → Call → Answer → Checker S M → Type 0
+  Continues was c a is =
+      (capacity : ℕ) (past : List Call) → Led capacity past was →
+      (a ≡ answer (book_after capacity past) c) × Led capacity (past ++ c ∷ []) is
 
-    -- for every list of calls that led to `was`, the answer is the book's after them, and they and this call lead to `is`
-    abbrev pub Continues : Checker S M → Call → Answer → Checker S M → Type 0
-    Continues was c a is =
-        (capacity : ℕ) (past : List Call) → Led capacity past was →
-        (a ≡ answer (book_after capacity past) c) × Led capacity (past ++ c ∷ []) is
+  -- the same of a call whose answer may be the total
+  abbrev pub Replies : Checker S M → Call → ReplyParts M → Checker S M → Type 0
+  Replies was c r is =
+      (capacity : ℕ) (past : List Call) → Led capacity past was →
+      (r ≡ reply nil joined weight (book_after capacity past) c) × Led capacity (past ++ c ∷ []) is
 
-    -- the same of a call whose answer may be the total
-    abbrev pub Replies : Checker S M → Call → ReplyParts M → Checker S M → Type 0
-    Replies was c r is =
-        (capacity : ℕ) (past : List Call) → Led capacity past was →
-        (r ≡ reply nil joined weight (book_after capacity past) c) × Led capacity (past ++ c ∷ []) is
-
-    -- every list of calls that led to `was` leads to `is`
-    abbrev pub Stays : Checker S M → Checker S M → Type 0
-    Stays was is = (capacity : ℕ) (past : List Call) → Led capacity past was → Led capacity past is
+  -- every list of calls that led to `was` leads to `is`
+  abbrev pub Stays : Checker S M → Checker S M → Type 0
+  Stays was is = (capacity : ℕ) (past : List Call) → Led capacity past was → Led capacity past is

@@ -1,7 +1,5 @@
 -- The positions that a checker tells.
 use Rattle.std.specs.Prelude.{◌≡◌, ℕ, ◌≤◌, List, ℤ}
-use Rattle.life.specs.declared.key.Key.{Key}
-use Rattle.life.specs.declared.life.Life.{Life}
 use Rattle.life.specs.Parts.{KeyParts, LifeParts}
 use Rattle.measure.specs.declared.both.Both.{Both}
 use Rattle.measure.specs.declared.sheet.Sheet.{Sheet}
@@ -15,7 +13,7 @@ use Rattle.calls.specs.Held.{Led}
 
 -- for every list of calls that led to the checker, with room for at most 65,535 lives, this is the position of contract n in the book after them:
 -- the quantities of its open trades, plus for a buy and minus for a sell, as a sum of integers
-abbrev pub TellsPosition : {S B : Type 0} → (S → ℕ) → (S → List (Key × Life)) → B → (B → B → B) → (KeyParts → LifeParts → B) → Checker S (Both Sheet B) → ℕ → ℤ → Type 0
-TellsPosition room pairs nil joined weight checker n sum =
-    (capacity : ℕ) (past : List Call) → capacity ≤ 65535 → Led room pairs (both no_sheet nil) (both_joined added joined) (both_weight sheet_weight weight) capacity past checker →
+abbrev pub TellsPosition : {S B : Type 0} → B → (B → B → B) → (KeyParts → LifeParts → B) → Checker S (Both Sheet B) → ℕ → ℤ → Type 0
+TellsPosition nil joined weight checker n sum =
+    (capacity : ℕ) (past : List Call) → capacity ≤ 65535 → Led (both no_sheet nil) (both_joined added joined) (both_weight sheet_weight weight) capacity past checker →
     sum ≡ true_position n (book_after capacity past).lives

@@ -1,16 +1,14 @@
 -- A run of calls on a new checker: law (a).
 use Rattle.std.specs.Prelude.{ℕ, List, vec_items}
-use Rattle.life.specs.declared.key.Key.{Key}
-use Rattle.life.specs.declared.life.Life.{Life}
 use Rattle.life.specs.Parts.{KeyParts, LifeParts}
 use Rattle.book.specs.Book.{Call}
 use Rattle.calls.specs.declared.completed.CompletedRun.{CompletedRun}
 use Rattle.calls.specs.Follows.{Ran}
-use Rattle.calls.specs.Held.{book_in, total_in}
+use Rattle.calls.specs.Held.{book_in}
 use Rattle.calls.specs.Said.{answers_said}
 
--- a new checker with room for so many lives was given these calls: its answers and the totals told are the book's, the pairs of its store are the
--- book's keys and lives, and its total is the joined weights of the book's open lives
-abbrev pub HasRun : {S M : Type 0} → (S → ℕ) → (S → List (Key × Life)) → M → (M → M → M) → (KeyParts → LifeParts → M) → ℕ → List Call → CompletedRun S M → Type 0
-HasRun room pairs nil joined weight capacity calls run =
-    Ran nil joined weight capacity calls (answers_said (vec_items run.answers)) (vec_items run.totals) (book_in room pairs run.checker) (total_in room pairs run.checker)
+-- a new checker with room for so many lives was given these calls: its answers and the totals told are the book's, the lives of its register are
+-- the book's keys and lives, and its total is the joined weights of the book's open lives
+abbrev pub HasRun : {S M : Type 0} → M → (M → M → M) → (KeyParts → LifeParts → M) → ℕ → List Call → CompletedRun S M → Type 0
+HasRun nil joined weight capacity calls run =
+    Ran nil joined weight capacity calls (answers_said (vec_items run.answers)) (vec_items run.totals) (book_in run.checker) run.checker.register.total

@@ -8,7 +8,8 @@ use Rattle.files.specs.declared.faults.IdentifyFault.{IdentifyFault}
 use Rattle.files.specs.declared.faults.NamingError.{NamingError}
 use Rattle.files.specs.declared.faults.NamingError.TheVariants.{Fault, NoMemory}
 use Rattle.files.specs.declared.faults.PlaceFault.{PlaceFault}
-use Rattle.files.specs.declared.named_file.NamedFile.{NamedFile}
+use Rattle.files.specs.declared.token.FileToken.{FileToken}
+use Rattle.files.specs.declared.token.OnlyNamed.{OnlyNamed}
 use Rattle.files.specs.declared.receipt.Receipt as files
 use Rattle.files.specs.Faults.{identify_number, place_number}
 use Rattle.life.specs.declared.life.Life.{Life}
@@ -78,7 +79,7 @@ identify_answer (Ok u) = book.Accepted
 identify_answer (Err e) = book.Refused (identify_number e) 0 0
 
 -- where a refusal hands the token back
-abbrev pub token_answer : {V : Type 0} → Result V (IdentifyFault × NamedFile) → book.Answer
+abbrev pub token_answer : {V : Type 0} → Result V (IdentifyFault × FileToken OnlyNamed) → book.Answer
 token_answer (Ok v) = book.Accepted
 token_answer (Err e) = book.Refused (identify_number e.0) 0 0
 

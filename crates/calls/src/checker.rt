@@ -2,10 +2,12 @@
 use contract::ContractList;
 use files::FileList;
 use filing::EntityList;
+use life::Store;
+use measure::Measure;
 use register::Register;
 
 #[derive(Drop)]
-pub struct Checker<'s, S, M> {
+pub struct Checker<'s, S: Store, M: Measure> {
     pub(crate) register: Register<'s, S, M>,
     pub(crate) entities: EntityList,
     pub(crate) contracts: ContractList,

@@ -1,7 +1,7 @@
 // Judging lines.
 ghost use Rattle.std.specs.Prelude.{◌≡◌};
 ghost use Rattle.book.specs.Book.{Judge as JudgeCall};
-ghost use Rattle.calls.specs.Held.{book_in, total_in, Continues};
+ghost use Rattle.calls.specs.Held.{book_in, Continues};
 ghost use Rattle.calls.specs.Said.{judge_answer};
 ghost use Rattle.calls.specs.Steps.{Step, Tried};
 
@@ -16,14 +16,14 @@ use measure::Measure;
 impl<'s, S: Store, M: Measure> Checker<'s, S, M> {
     // Judges a line in an identified file, where it counts.
     pub fn judge(&mut self, file: &IdentifiedFile, line: &[u8]) -> Result<(), JudgeFault>
-        ensures { Continues S.room S.pairs M.nil M.joined M.weight self.old (JudgeCall file.now.number line.now) (judge_answer result) self.new }
+        ensures { Continues M.nil M.joined M.weight self.old (JudgeCall file.now.number line.now) (judge_answer result) self.new }
     {
         self.judge_at(file.number(), line)
     }
 
     // Judges a line in the file of a number.
     pub(crate) fn judge_at(&mut self, number: usize, line: &[u8]) -> Result<(), JudgeFault>
-        ensures { Step M.nil M.joined M.weight (book_in S.room S.pairs self.old) (total_in S.room S.pairs self.old) (JudgeCall number line.now) (judge_answer result) (book_in S.room S.pairs self.new) (total_in S.room S.pairs self.new) }
+        ensures { Step M.nil M.joined M.weight (book_in self.old) self.old.register.total (JudgeCall number line.now) (judge_answer result) (book_in self.new) self.new.register.total }
     {
         let answer = self.try_line(number, line);
         self.files.count_line(number, answer.is_ok());
@@ -32,7 +32,7 @@ impl<'s, S: Store, M: Measure> Checker<'s, S, M> {
 
     // What becomes of the lives, before the line is counted.
     fn try_line(&mut self, number: usize, line: &[u8]) -> Result<(), JudgeFault>
-        ensures { Tried M.nil M.joined M.weight (book_in S.room S.pairs self.old) (total_in S.room S.pairs self.old) number line.now (judge_answer result) (book_in S.room S.pairs self.new) (total_in S.room S.pairs self.new) }
+        ensures { Tried M.nil M.joined M.weight (book_in self.old) self.old.register.total number line.now (judge_answer result) (book_in self.new) self.new.register.total }
     {
         self.files.takes(number)?;
         let claim = claim(&self.contracts, line)?;

@@ -16,7 +16,9 @@ use text::Action;
 impl<'s, S: Store, M: Measure> Register<'s, S, M> {
     // A register over an emptied store, with a total of zero.
     pub fn new(store: &'s mut S) -> Register<'s, S, M>
-        ensures { result ≡ record { room = S.room store.old; lives = []; total = M.nil } }
+        ensures room { result.room ≡ S.room store.old }
+        ensures lives { result.lives ≡ [] }
+        ensures total { result.total ≡ M.nil }
     {
         store.empty();
         Register {

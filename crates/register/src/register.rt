@@ -2,7 +2,7 @@
 ghost use Rattle.std.specs.Prelude.{◌≡◌};
 ghost use Rattle.life.specs.Lives.{plain};
 ghost use Rattle.measure.specs.Totals.{total_of};
-ghost use Rattle.register.specs.Held.{Held};
+ghost use Rattle.register.specs.Held.{Held, held};
 
 use life::Store;
 use measure::Measure;
@@ -18,7 +18,7 @@ pub struct Register<'s, S: Store, M: Measure> {
 impl<'s, S: Store, M: Measure> Model for Register<'s, S, M> {
     ghost Value = { Held M };
 
-    ghost view = { λ r. record { room = S.room r.store.now; lives = plain (S.pairs r.store.now); total = r.total } };
+    ghost view = { λ r. held (S.room r.store.now) (S.pairs r.store.now) (S.unique r.store.now) r.total };
 
     ghost invariant = { λ r. r.total ≡ total_of M.nil M.joined M.weight (plain (S.pairs r.store.now)) };
 }

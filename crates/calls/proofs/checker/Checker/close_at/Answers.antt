@@ -1,4 +1,5 @@
-use Rattle.files.specs.Held.{files_of}
+use Rattle.std.proofs.Common.{ap}
+use Rattle.files.specs.Held.{Filed}
 use Rattle.book.specs.Book.{Close}
 use Rattle.calls.specs.Held.{book_in}
 use Rattle.calls.specs.Said.{ending_answer}
@@ -12,5 +13,5 @@ returns g c =
     let s = g.S.Store in
     let was = c.args.self.now in
     let call = c.close_at in
-    continues s.room s.pairs s.unique m.laws m.weight was (record { register = was.register; entities = was.entities; contracts = was.contracts; files = call.new.self }) (Close c.args.number) (ending_answer call.result)
-    (close_step m.nil m.joined m.weight (book_in s.room s.pairs was) was.register.total c.args.number call.result (files_of call.new.self) call.ensures.told call.ensures.counts call.ensures.list)
+    continues m.laws m.weight was (record { register = was.register; entities = was.entities; contracts = was.contracts; files = call.new.self }) (Close c.args.number) (ending_answer call.result)
+    (close_step m.nil m.joined m.weight (book_in was) was.register.total c.args.number call.result (call.new.self.files) call.ensures.told call.ensures.counts (ap (λ (f : Filed). f.files) call.ensures.list))

@@ -1,4 +1,5 @@
-use Rattle.files.specs.Held.{files_of}
+use Rattle.std.proofs.Common.{ap}
+use Rattle.files.specs.Held.{Filed}
 use Rattle.book.specs.Book.{Identify}
 use Rattle.calls.specs.Held.{book_in}
 use Rattle.calls.specs.Said.{token_answer}
@@ -14,6 +15,6 @@ returns g c =
     record {
       token = c.identify.ensures.token;
       follows =
-          continues s.room s.pairs s.unique m.laws m.weight was (record { register = was.register; entities = was.entities; contracts = was.contracts; files = c.identify.new.self }) (Identify c.args.file.number c.args.code.now) (token_answer c.identify.result)
-          (token_step m.nil m.joined m.weight (book_in s.room s.pairs was) was.register.total c.args.file.number c.args.code.now c.identify.result (files_of c.identify.new.self) c.identify.ensures.told c.identify.ensures.list);
+          continues m.laws m.weight was (record { register = was.register; entities = was.entities; contracts = was.contracts; files = c.identify.new.self }) (Identify c.args.file.number c.args.code.now) (token_answer c.identify.result)
+          (token_step m.nil m.joined m.weight (book_in was) was.register.total c.args.file.number c.args.code.now c.identify.result (c.identify.new.self.files) c.identify.ensures.told (ap (λ (f : Filed). f.files) c.identify.ensures.list));
     }

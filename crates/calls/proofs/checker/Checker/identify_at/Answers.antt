@@ -1,4 +1,5 @@
-use Rattle.files.specs.Held.{files_of}
+use Rattle.std.proofs.Common.{ap}
+use Rattle.files.specs.Held.{Filed}
 use Rattle.book.specs.Book.{Identify}
 use Rattle.calls.specs.Held.{book_in}
 use Rattle.calls.specs.Said.{identify_answer}
@@ -12,5 +13,5 @@ returns g c =
     let s = g.S.Store in
     let was = c.args.self.now in
     let call = c.identify_at in
-    continues s.room s.pairs s.unique m.laws m.weight was (record { register = was.register; entities = was.entities; contracts = was.contracts; files = call.new.self }) (Identify c.args.number c.args.code.now) (identify_answer call.result)
-    (identify_step m.nil m.joined m.weight (book_in s.room s.pairs was) was.register.total c.args.number c.args.code.now call.result (files_of call.new.self) call.ensures.told call.ensures.list)
+    continues m.laws m.weight was (record { register = was.register; entities = was.entities; contracts = was.contracts; files = call.new.self }) (Identify c.args.number c.args.code.now) (identify_answer call.result)
+    (identify_step m.nil m.joined m.weight (book_in was) was.register.total c.args.number c.args.code.now call.result (call.new.self.files) call.ensures.told (ap (λ (f : Filed). f.files) call.ensures.list))

@@ -1,6 +1,5 @@
 use Rattle.std.proofs.Common.{cond, sym, ap, ◌∙◌, subst}
 use Rattle.files.specs.Files.{named_in}
-use Rattle.files.specs.Held.{files_of}
 use Rattle.book.specs.Book.{with_files, NameFile}
 use Rattle.calls.specs.Follows.{Follows}
 use Rattle.calls.specs.Held.{book_in}
@@ -14,13 +13,13 @@ returns g c =
     let m = g.M.Measure in
     let s = g.S.Store in
     let was = c.args.self.now in
-    let files = files_of was.files in
+    let files = was.files.files in
     record {
       number = c.name.ensures.number;
       follows = λ had.
-          continues s.room s.pairs s.unique m.laws m.weight was (record { register = was.register; entities = was.entities; contracts = was.contracts; files = c.name.new.self }) (NameFile c.args.name.now) (naming_answer c.name.result)
-          (naming_step m.nil m.joined m.weight (book_in s.room s.pairs was) was.register.total c.args.name.now c.name.result (files_of c.name.new.self) had c.name.ensures.told c.name.ensures.list);
+          continues m.laws m.weight was (record { register = was.register; entities = was.entities; contracts = was.contracts; files = c.name.new.self }) (NameFile c.args.name.now) (naming_answer c.name.result)
+          (naming_step m.nil m.joined m.weight (book_in was) was.register.total c.args.name.now c.name.result (c.name.new.self.files) had c.name.ensures.told c.name.ensures.list);
       memory = λ none capacity past f.
-          subst (λ fs. Follows m.nil m.joined m.weight capacity past (with_files (book_in s.room s.pairs was) fs) was.register.total)
+          subst (λ fs. Follows m.nil m.joined m.weight capacity past (with_files (book_in was) fs) was.register.total)
           (sym (c.name.ensures.list ∙ ap (λ b. cond b (named_in files c.args.name.now) files) none)) f;
     }

@@ -1,7 +1,6 @@
 use Rattle.std.proofs.Common.{cond, sym, ap, ◌∙◌, subst}
 use Rattle.files.specs.Answers.{had_memory}
 use Rattle.files.specs.Files.{named_in}
-use Rattle.files.specs.Held.{files_of}
 use Rattle.book.specs.Book.{with_files, NameFile}
 use Rattle.calls.specs.declared.checker.Checker.{Checker}
 use Rattle.calls.specs.Follows.{Follows}
@@ -17,11 +16,11 @@ returns g c =
     let s = g.S.Store in
     let was = c.args.self.now in
     let named = c.name_next in
-    let files = files_of was.files in
+    let files = was.files.files in
     let is : Checker g.row.S.Denot g.row.M.Denot = record { register = was.register; entities = was.entities; contracts = was.contracts; files = named.new.self } in
-    let so = named_so s.room s.pairs s.unique m.laws m.weight was is (NameFile c.args.name.now) (had_memory named.result) (naming_answer named.result) c.of_naming.result c.of_naming.ensures
-    (λ had. continues s.room s.pairs s.unique m.laws m.weight was is (NameFile c.args.name.now) (naming_answer named.result)
-    (naming_step m.nil m.joined m.weight (book_in s.room s.pairs was) was.register.total c.args.name.now named.result (files_of named.new.self) had named.ensures.told named.ensures.list))
-    (λ none capacity past f. subst (λ fs. Follows m.nil m.joined m.weight capacity past (with_files (book_in s.room s.pairs was) fs) was.register.total)
+    let so = named_so m.laws m.weight was is (NameFile c.args.name.now) (had_memory named.result) (naming_answer named.result) c.of_naming.result c.of_naming.ensures
+    (λ had. continues m.laws m.weight was is (NameFile c.args.name.now) (naming_answer named.result)
+    (naming_step m.nil m.joined m.weight (book_in was) was.register.total c.args.name.now named.result (named.new.self.files) had named.ensures.told named.ensures.list))
+    (λ none capacity past f. subst (λ fs. Follows m.nil m.joined m.weight capacity past (with_files (book_in was) fs) was.register.total)
     (sym (named.ensures.list ∙ ap (λ b. cond b (named_in files c.args.name.now) files) none)) f) in
     record { follows = so.0; memory = so.1 }

@@ -11,6 +11,6 @@ returns g c =
     let s = g.S.Store in
     let was = c.args.self.now in
     record {
-      told = λ capacity past f. c.total.ensures ∙ f.sums;
-      follows = continues s.room s.pairs s.unique m.laws m.weight was was Total Accepted (total_step m.nil m.joined m.weight (book_in s.room s.pairs was) was.register.total);
+      told = λ capacity past f. c.total.ensures.told ∙ f.sums;
+      follows = continues m.laws m.weight was was Total Accepted (total_step m.nil m.joined m.weight (book_in was) was.register.total);
     }

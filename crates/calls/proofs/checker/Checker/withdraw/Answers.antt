@@ -1,4 +1,5 @@
-use Rattle.files.specs.Held.{files_of}
+use Rattle.std.proofs.Common.{ap}
+use Rattle.files.specs.Held.{Filed}
 use Rattle.book.specs.Book.{Withdraw}
 use Rattle.calls.specs.Held.{book_in}
 use Rattle.calls.specs.Said.{ending_answer}
@@ -11,5 +12,5 @@ returns g c =
     let m = g.M.Measure in
     let s = g.S.Store in
     let was = c.args.self.now in
-    continues s.room s.pairs s.unique m.laws m.weight was (record { register = was.register; entities = was.entities; contracts = was.contracts; files = c.withdraw.new.self }) (Withdraw c.args.file.number) (ending_answer c.withdraw.result)
-    (withdraw_step m.nil m.joined m.weight (book_in s.room s.pairs was) was.register.total c.args.file.number c.withdraw.result (files_of c.withdraw.new.self) c.withdraw.ensures.told c.withdraw.ensures.counts c.withdraw.ensures.list)
+    continues m.laws m.weight was (record { register = was.register; entities = was.entities; contracts = was.contracts; files = c.withdraw.new.self }) (Withdraw c.args.file.number) (ending_answer c.withdraw.result)
+    (withdraw_step m.nil m.joined m.weight (book_in was) was.register.total c.args.file.number c.withdraw.result (c.withdraw.new.self.files) c.withdraw.ensures.told c.withdraw.ensures.counts (ap (λ (f : Filed). f.files) c.withdraw.ensures.list))

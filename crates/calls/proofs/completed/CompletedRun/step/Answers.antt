@@ -13,7 +13,7 @@ returns-in_ok-push-in-Answered g c capacity past f =
     let is = c.call.new.self in
     let goes = c.in_ok-answer.ensures.follows capacity past f.follows in
     goes_answered m.nil m.joined m.weight capacity past (call_said c.args.call.now) (vec_items was.answers) (vec_items was.totals)
-    (book_in s.room s.pairs was.checker) (book_in s.room s.pairs is) was.checker.register.total is.register.total c.in-Answered.answer (vec_items c.push.new.self)
+    (book_in was.checker) (book_in is) was.checker.register.total is.register.total c.in-Answered.answer (vec_items c.push.new.self)
     c.in_ok-push-in-Answered.ensures.items f (sym (ap reply_said c.in-Answered.is) ∙ goes.0, goes.1)
 
 pub returns-in_ok-push-in-Total-2 : goal.returns-in_ok-push-in-Total-2
@@ -24,5 +24,5 @@ returns-in_ok-push-in-Total-2 g c capacity past f =
     let is = c.call.new.self in
     let goes = c.in_ok-answer.ensures.follows capacity past f.follows in
     goes_totalled m.nil m.joined m.weight capacity past (call_said c.args.call.now) (vec_items was.answers) (vec_items was.totals)
-    (book_in s.room s.pairs was.checker) (book_in s.room s.pairs is) was.checker.register.total is.register.total c.in-Total.total Accepted (vec_items c.push-in-Total.new.self) (vec_items c.push-in-Total-2.new.self)
+    (book_in was.checker) (book_in is) was.checker.register.total is.register.total c.in-Total.total Accepted (vec_items c.push-in-Total.new.self) (vec_items c.push-in-Total-2.new.self)
     refl c.in_ok-push-in-Total.ensures.items c.in_ok-push-in-Total-2.ensures.items f (sym (ap reply_said c.in-Total.is) ∙ goes.0, goes.1)

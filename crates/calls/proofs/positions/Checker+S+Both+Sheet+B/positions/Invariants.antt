@@ -6,4 +6,4 @@ abbrev pub invariant-loop-n : goal.invariant-loop-n
 invariant-loop-n g l =
     let s = g.S.Store in
     let b = g.B.Measure in
-    (length l.sums ≡ 64) × ((n : ℕ) → n < l.n → TellsPosition s.room s.pairs b.nil b.joined b.weight l.self n (get_or l.sums n (pos 0)))
+    (length l.sums ≡ 64) × ((n : ℕ) → n < l.n → TellsPosition b.nil b.joined b.weight l.self n (get_or l.sums n (pos 0)))
