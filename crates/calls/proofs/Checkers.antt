@@ -1,5 +1,5 @@
 -- A step of what a checker holds continues every history that led to it.
-use Rattle.std.proofs.Common.{◌≡◌, ℕ, Bool, true, false, List, IfOk, IfErr, Ok, Err, Result, sym, subst, MatchResult}
+use Rattle.std.proofs.Common.{◌≡◌, Bool, true, false, IfOk, IfErr, Ok, Err, Result, sym, subst, MatchResult}
 use Rattle.std.specs.declared.alloc.AllocError.{AllocError}
 use Rattle.life.specs.Parts.{KeyParts, LifeParts}
 use Rattle.measure.specs.Group.{Group}

@@ -25,7 +25,7 @@ use Rattle.calls.specs.declared.answer.Reply.TheVariants.{Answered, Total as Tot
 use Rattle.calls.specs.declared.call.Call.{Call}
 use Rattle.calls.specs.declared.call.Call.TheVariants.{AddEntity, AddContract, NameFile, Identify, Withdraw, Close, Judge, LookUp, Total}
 use Rattle.calls.specs.declared.faults.JudgeFault.{JudgeFault}
-use Rattle.calls.specs.Faults.{judge_number, judge_field, judge_offset}
+use Rattle.calls.specs.Faults.{judge_number, judge_field, judge_offset, fault_number, fault_field, fault_offset}
 use Rattle.calls.specs.Follows.{book_total}
 
 -- ---- Calls
@@ -51,7 +51,7 @@ receipt_said r = book.Receipt r.judged r.accepted r.refused
 
 abbrev pub answer_said : Answer → book.Answer
 answer_said Accepted = book.Accepted
-answer_said (Refused r) = book.Refused r.number r.field r.at
+answer_said (Refused f) = book.Refused (fault_number f) (fault_field f) (fault_offset f)
 answer_said (Receipt r) = receipt_said r
 answer_said (Found o) = book.Found (life_in o)
 

@@ -6,6 +6,7 @@ mod by_call;
 mod call;
 mod checker;
 mod completed;
+mod fault;
 mod faults;
 mod file_calls;
 mod lines;
@@ -14,8 +15,9 @@ mod positions;
 mod replies;
 mod runs;
 
-pub use answer::{Answer, Refusal, Reply};
+pub use answer::{Answer, Reply};
 pub use call::Call;
 pub use checker::Checker;
 pub use completed::CompletedRun;
+pub use fault::Fault;
 pub use faults::JudgeFault;

@@ -1,10 +1,10 @@
 // The answers of the calls, in one type.
 ghost use Rattle.std.specs.Prelude.{◌≡◌, true, false, MatchResult};
 ghost use Rattle.files.specs.Answers.{had_memory};
-ghost use Rattle.book.specs.Book.{Refused as RefusedAnswer};
 ghost use Rattle.calls.specs.Said.{answer_said, entity_answer, contract_answer, naming_answer, identify_answer, ending_answer, judge_answer, finding_answer};
 
-use crate::answer::{Answer, Refusal};
+use crate::answer::Answer;
+use crate::fault::Fault;
 use crate::faults::JudgeFault;
 use claims::LineFault;
 use contract::ContractFault;
@@ -14,23 +14,14 @@ use life::Life;
 use measure::Measure;
 use std::alloc::AllocError;
 
-// A refusal that names no field.
-pub(crate) fn refused_plainly(number: u8) -> Answer
-    ensures { answer_said result ≡ RefusedAnswer number 0 0 }
-{
-    Answer::Refused(Refusal {
-        number: number as u16,
-        field: 0,
-        at: 0,
-    })
-}
+// Each call has an answer of its own in the contracts, so each has its own function here.
 
 pub(crate) fn of_entity(res: Result<(), EntityFault>) -> Answer
     ensures { answer_said result ≡ entity_answer res }
 {
     match res {
         Ok(()) => Answer::Accepted,
-        Err(fault) => refused_plainly(fault.number()),
+        Err(fault) => Answer::Refused(Fault::Entity(fault)),
     }
 }
 
@@ -39,11 +30,7 @@ pub(crate) fn of_contract(res: Result<u8, ContractFault>) -> Answer
 {
     match res {
         Ok(_) => Answer::Accepted,
-        Err(fault) => Answer::Refused(Refusal {
-            number: fault.number() as u16,
-            field: fault.field(),
-            at: fault.offset(),
-        }),
+        Err(fault) => Answer::Refused(Fault::Contract(fault)),
     }
 }
 
@@ -53,7 +40,7 @@ pub(crate) fn of_naming(res: Result<usize, NamingError>) -> Result<Answer, Alloc
 {
     match res {
         Ok(_) => Ok(Answer::Accepted),
-        Err(NamingError::Fault(fault)) => Ok(refused_plainly(fault.number())),
+        Err(NamingError::Fault(fault)) => Ok(Answer::Refused(Fault::Name(fault))),
         Err(NamingError::NoMemory) => Err(AllocError),
     }
 }
@@ -63,7 +50,7 @@ pub(crate) fn of_identifying(res: Result<(), IdentifyFault>) -> Answer
 {
     match res {
         Ok(()) => Answer::Accepted,
-        Err(fault) => refused_plainly(fault.number()),
+        Err(fault) => Answer::Refused(Fault::Identify(fault)),
     }
 }
 
@@ -72,7 +59,7 @@ pub(crate) fn of_ending(res: Result<Receipt, PlaceFault>) -> Answer
 {
     match res {
         Ok(receipt) => Answer::Receipt(receipt),
-        Err(fault) => refused_plainly(fault.number()),
+        Err(fault) => Answer::Refused(Fault::Place(fault)),
     }
 }
 
@@ -81,11 +68,7 @@ pub(crate) fn of_judging(res: Result<(), JudgeFault>) -> Answer
 {
     match res {
         Ok(()) => Answer::Accepted,
-        Err(fault) => Answer::Refused(Refusal {
-            number: fault.number(),
-            field: fault.field(),
-            at: fault.offset(),
-        }),
+        Err(fault) => Answer::Refused(Fault::Judge(fault)),
     }
 }
 
@@ -94,11 +77,7 @@ pub(crate) fn of_finding(res: Result<Option<Life>, LineFault>) -> Answer
 {
     match res {
         Ok(life) => Answer::Found(life),
-        Err(fault) => Answer::Refused(Refusal {
-            number: fault.number(),
-            field: fault.field(),
-            at: fault.offset(),
-        }),
+        Err(fault) => Answer::Refused(Fault::LookUp(fault)),
     }
 }
 
