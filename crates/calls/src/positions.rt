@@ -16,10 +16,12 @@ impl<'s, S: Store, B: Measure> Checker<'s, S, Both<Sheet, B>> {
     {
         self.register.total().parts().0.position(contract)
     }
+
     // The positions of all contracts, by their numbers, 0 for trades outside a market place.
     pub fn positions(&self) -> [i64; 64]
         ensures { (n : ℕ) → n < 64 → TellsPosition B.Measure.nil B.Measure.joined B.Measure.weight self.now n (slice_index_or result n (pos 0)) }
     {
+        // By a loop: from `array::from_fn` it could not be told that each call asks this checker.
         let mut sums = [0; CELLS];
         for n in 0..CELLS {
             sums[n] = self.position(n as u8);
