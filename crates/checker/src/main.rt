@@ -3,10 +3,9 @@
 
 mod commands;
 
-use commands::{Refusal, answer};
+use commands::answer;
 use std::io;
 use std::io::{Read, Write};
-use text::{rest_after, span_to};
 
 // Answers are written out when this many bytes have come together.
 const FLUSH: usize = 65536;
@@ -16,18 +15,15 @@ fn main(rt: HostRuntime) -> io::Result<()> {
     rt.stdin().read_to_end(&mut input)?;
     let mut stdout = rt.stdout();
     let mut out = String::new(rt.alloc());
-    let mut rest = input.as_slice();
-    while !rest.is_empty() {
-        let end = span_to(rest, b'\n');
-        match answer(&rest[0..end]) {
+    for line in input.split_inclusive(|b| *b == b'\n') {
+        match answer(line.strip_suffix(b"\n").unwrap_or(line)) {
             Ok(()) => out.push_str("A\n")?,
-            Err(Refusal { number, field }) => writeln!(out, "R {number} {field} -")?,
+            Err(fault) => writeln!(out, "{fault}")?,
         }
         if out.len() > FLUSH {
             stdout.write_all(out.as_bytes())?;
             out.clear();
         }
-        rest = rest_after(rest, end);
     }
     stdout.write_all(out.as_bytes())
 }
