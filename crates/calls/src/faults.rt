@@ -1,6 +1,6 @@
 // Why a line is refused.
 ghost use Rattle.std.specs.Prelude.{◌≡◌, Some, None};
-ghost use Rattle.calls.specs.Faults.{judge_number as number_of, judge_field as field_of, judge_offset as offset_of, judge_code as code_of_lem};
+ghost use Rattle.calls.specs.Faults.{judge_number, judge_field, judge_offset, judge_code};
 ghost use Rattle.calls.specs.declared.faults.JudgeFault.TheVariants.{File, Line};
 
 use claims::LineFault;
@@ -41,7 +41,7 @@ impl From<LineFault> for JudgeFault {
 impl JudgeFault {
     // The published number.
     pub fn number(&self) -> u16
-        ensures { result ≡ number_of self.now }
+        ensures { result ≡ judge_number self.now }
     {
         match *self {
             JudgeFault::File(fault) => fault.number() as u16,
@@ -52,7 +52,7 @@ impl JudgeFault {
 
     // The field, or 0 where none is named.
     pub fn field(&self) -> u8
-        ensures { result ≡ field_of self.now }
+        ensures { result ≡ judge_field self.now }
     {
         match *self {
             JudgeFault::File(_) => 0,
@@ -63,7 +63,7 @@ impl JudgeFault {
 
     // The offset of the field's first byte, or 0 where none is named.
     pub fn offset(&self) -> usize
-        ensures { result ≡ offset_of self.now }
+        ensures { result ≡ judge_offset self.now }
     {
         match *self {
             JudgeFault::File(_) => 0,
@@ -74,7 +74,7 @@ impl JudgeFault {
 
     // The Agency's code, if it has one.
     pub fn code(&self) -> Option<&'static [u8]>
-        ensures { elim result [ None ↦ code_of_lem self.now ≡ None | Some text ↦ code_of_lem self.now ≡ Some text.now ] }
+        ensures { elim result [ None ↦ judge_code self.now ≡ None | Some text ↦ judge_code self.now ≡ Some text.now ] }
     {
         match *self {
             JudgeFault::File(_) => None,

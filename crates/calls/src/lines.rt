@@ -36,6 +36,7 @@ impl<'s, S: Store, M: Measure> Checker<'s, S, M> {
     {
         self.files.takes(number)?;
         let claim = claim(&self.contracts, line)?;
+        // A match, and not `map_err`: what the closure answers would have to be told again in the proof.
         match self.register.judge(&claim.key, claim.action, &claim.told) {
             Ok(()) => Ok(()),
             Err(fault) => Err(JudgeFault::Act {

@@ -14,6 +14,7 @@ pub fn claim(contracts: &ContractList, line: &[u8]) -> Result<Claim, LineFault>
     ensures { claim_in result ≡ claiming contracts.now line.now }
 {
     let report = read_line(line)?;
+    // A match, and not `map_err`: what the closure answers would have to be told again in the proof.
     let number = match contracts.number_of(&report) {
         Ok(number) => number,
         Err(fault) => {

@@ -1,6 +1,6 @@
 // Why a line makes no claim.
 ghost use Rattle.std.specs.Prelude.{◌≡◌, Some, None};
-ghost use Rattle.claims.specs.Faults.{line_fault_number as number_of, line_fault_field as field_of, line_fault_offset as offset_of, line_fault_code as code_of_lem};
+ghost use Rattle.claims.specs.Faults.{line_fault_number, line_fault_field, line_fault_offset, line_fault_code};
 ghost use Rattle.claims.specs.declared.faults.LineFault.TheVariants.{Read};
 
 use contract::ListFault;
@@ -25,7 +25,7 @@ impl From<ReadFault> for LineFault {
 impl LineFault {
     // The published number.
     pub fn number(&self) -> u16
-        ensures { result ≡ number_of self.now }
+        ensures { result ≡ line_fault_number self.now }
     {
         match *self {
             LineFault::Read(e) => e.number(),
@@ -35,7 +35,7 @@ impl LineFault {
 
     // The field, or 0 where none is named.
     pub fn field(&self) -> u8
-        ensures { result ≡ field_of self.now }
+        ensures { result ≡ line_fault_field self.now }
     {
         match *self {
             LineFault::Read(e) => e.field(),
@@ -45,7 +45,7 @@ impl LineFault {
 
     // The offset of the field's first byte, or 0 where none is named.
     pub fn offset(&self) -> usize
-        ensures { result ≡ offset_of self.now }
+        ensures { result ≡ line_fault_offset self.now }
     {
         match *self {
             LineFault::Read(e) => e.offset(),
@@ -55,7 +55,7 @@ impl LineFault {
 
     // The Agency's code, if it has one.
     pub fn code(&self) -> Option<&'static [u8]>
-        ensures { elim result [ None ↦ code_of_lem self.now ≡ None | Some text ↦ code_of_lem self.now ≡ Some text.now ] }
+        ensures { elim result [ None ↦ line_fault_code self.now ≡ None | Some text ↦ line_fault_code self.now ≡ Some text.now ] }
     {
         match *self {
             LineFault::Read(_) => None,

@@ -1,6 +1,6 @@
 // Why a call on a file is refused.
 ghost use Rattle.std.specs.Prelude.{◌≡◌, Some, None};
-ghost use Rattle.files.specs.Faults.{identify_number as identify_number_of, place_number as place_number_of, take_number as take_number_of, identify_code as identify_code_of};
+ghost use Rattle.files.specs.Faults.{identify_number, place_number, take_number, identify_code};
 ghost use Rattle.files.specs.declared.faults.NamingError.TheVariants.{Fault, NoMemory};
 
 use filing::NameFault;
@@ -41,7 +41,7 @@ pub enum IdentifyFault {
 impl IdentifyFault {
     // The published number. No field is named.
     pub fn number(&self) -> u8
-        ensures { result ≡ identify_number_of self.now }
+        ensures { result ≡ identify_number self.now }
     {
         match *self {
             IdentifyFault::OutOfPlace => 66,
@@ -51,7 +51,7 @@ impl IdentifyFault {
 
     // The Agency's code, if it has one.
     pub fn code(&self) -> Option<&'static [u8]>
-        ensures { elim result [ None ↦ identify_code_of self.now ≡ None | Some text ↦ identify_code_of self.now ≡ Some text.now ] }
+        ensures { elim result [ None ↦ identify_code self.now ≡ None | Some text ↦ identify_code self.now ≡ Some text.now ] }
     {
         match *self {
             IdentifyFault::OutOfPlace => None,
@@ -70,7 +70,7 @@ pub enum PlaceFault {
 impl PlaceFault {
     // The published number. No field is named.
     pub fn number(&self) -> u8
-        ensures { result ≡ place_number_of self.now }
+        ensures { result ≡ place_number self.now }
     {
         match *self {
             PlaceFault::OutOfPlace => 66,
@@ -90,7 +90,7 @@ pub enum TakeFault {
 impl TakeFault {
     // The published number. No field is named.
     pub fn number(&self) -> u8
-        ensures { result ≡ take_number_of self.now }
+        ensures { result ≡ take_number self.now }
     {
         match *self {
             TakeFault::OutOfPlace => 66,

@@ -1,6 +1,6 @@
 // Why an action of a key is refused.
 ghost use Rattle.std.specs.Prelude.{◌≡◌, Some, None};
-ghost use Rattle.register.specs.Faults.{act_number as number_of, act_field as field_of, act_code as code_of_lem};
+ghost use Rattle.register.specs.Faults.{act_number, act_field, act_code};
 ghost use Rattle.register.specs.declared.faults.ActFault.TheVariants.{Life};
 
 use life::LifeFault;
@@ -25,7 +25,7 @@ impl From<LifeFault> for ActFault {
 impl ActFault {
     // The published number.
     pub fn number(&self) -> u8
-        ensures { result ≡ number_of self.now }
+        ensures { result ≡ act_number self.now }
     {
         match *self {
             ActFault::Life(e) => e.number(),
@@ -35,7 +35,7 @@ impl ActFault {
 
     // The field of the line, or 0 where none is named.
     pub fn field(&self) -> u8
-        ensures { result ≡ field_of self.now }
+        ensures { result ≡ act_field self.now }
     {
         match *self {
             ActFault::Life(e) => e.field(),
@@ -45,7 +45,7 @@ impl ActFault {
 
     // The Agency's code for an order or a trade, if it has one.
     pub fn code(&self, kind: Kind) -> Option<&'static [u8]>
-        ensures { elim result [ None ↦ code_of_lem kind self.now ≡ None | Some text ↦ code_of_lem kind self.now ≡ Some text.now ] }
+        ensures { elim result [ None ↦ act_code kind self.now ≡ None | Some text ↦ act_code kind self.now ≡ Some text.now ] }
     {
         match *self {
             ActFault::Life(e) => e.code(kind),
