@@ -72,8 +72,8 @@ module _ (most limit : ℕ) (s : Bytes) where
 
 -- what the code finds, a step at a time: w bytes before the dot
 module _ (most limit w : ℕ) (s : Bytes) (e : w ≡ span_to 46 s) where
-  the_front : take (w - 0) s ≡ front_to 46 s
-  the_front = ap (λ n. take n s) (omega arith)
+  the_front : take w s ≡ front_to 46 s
+  the_front = ap (λ n. take n s) e
 
   the_rest : take (length s - (w + 1)) (drop (w + 1) s) ≡ drop (span_to 46 s + 1) s
   the_rest = take_rest s (w + 1) ∙ ap (λ n. drop n s) (omega arith)
@@ -81,7 +81,7 @@ module _ (most limit w : ℕ) (s : Bytes) (e : w ≡ span_to 46 s) where
   all_front : length s ≤ w → front_to 46 s ≡ s
   all_front h = grind (arith, nat_tests, take_all)
 
-  pub no_whole : None ≡ digits_form most (take (w - 0) s) → None ≡ decimal_form most limit s
+  pub no_whole : None ≡ digits_form most (take w s) → None ≡ decimal_form most limit s
   no_whole d =
       let f : digits_form most (front_to 46 s) ≡ None = ap (digits_form most) (sym the_front) ∙ sym d in
       ⊎_elim
@@ -92,12 +92,12 @@ module _ (most limit w : ℕ) (s : Bytes) (e : w ≡ span_to 46 s) where
       sym (whole_only most limit s l ∙ ap (λ o. then (then o (λ n. Some (n * 100_000))) (at_most (limit * 100_000))) (ap (digits_form most) (sym (all_front (omega arith))) ∙ f)))
       (cases_Bool (ltb (span_to 46 s) (length s)))
 
-  pub only_whole : (n : ℕ) → Some n ≡ digits_form most (take (w - 0) s) → w ≡ length s → at_most (limit * 100_000) (n * 100_000) ≡ decimal_form most limit s
+  pub only_whole : (n : ℕ) → Some n ≡ digits_form most (take w s) → w ≡ length s → at_most (limit * 100_000) (n * 100_000) ≡ decimal_form most limit s
   only_whole n d l =
       let f : digits_form most s ≡ Some n = ap (digits_form most) (sym (the_front ∙ all_front (omega arith))) ∙ sym d in
       sym (whole_only most limit s (omega arith) ∙ ap (λ o. then (then o (λ n. Some (n * 100_000))) (at_most (limit * 100_000))) f)
 
-  module _ (n : ℕ) (d : Some n ≡ digits_form most (take (w - 0) s)) (l : w < length s) where
+  module _ (n : ℕ) (d : Some n ≡ digits_form most (take w s)) (l : w < length s) where
     inside : decimal_form most limit s ≡ then (then (digits_form 5 (take (length s - (w + 1)) (drop (w + 1) s))) (λ m. Some (n * 100_000 + m * 10 ^ (5 - length (take (length s - (w + 1)) (drop (w + 1) s)))))) (at_most (limit * 100_000))
     inside =
         let f : digits_form most (front_to 46 s) ≡ Some n = ap (digits_form most) (sym the_front) ∙ sym d in
