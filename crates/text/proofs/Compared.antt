@@ -21,11 +21,6 @@ lex_order [] (y ∷ ys) = refl
 lex_order (x ∷ xs) [] = refl
 lex_order (x ∷ xs) (y ∷ ys) = λ i. ordering_then (number_cmp x y i) (lex_order xs ys i)
 
--- one byte written before the zeros
-pub zeros_more : (n : ℕ) (xs : List ℕ) (i x : ℕ) → i < length xs → drop i xs ≡ replicate (n - i) 0 → drop (i + 1) (set xs i x) ≡ replicate (n - i - 1) 0
-zeros_more n xs i x l h =
-    drop-set-lt (i + 1) xs i x (omega arith) ∙ sym (drop-drop 1 i xs) ∙ ap (drop 1) h ∙ drop-replicate 1 (n - i) 0
-
 -- equal texts are equal values
 pub text_same : {n : ℕ} (t u : Text n) → text_of t ≡ text_of u → t ≡ u
 text_same {n} t u e =

@@ -1,6 +1,7 @@
 -- A decimal, cut at its dot.
 use Rattle.std.proofs.Common.{◌≡◌, ℕ, ◌+◌, ◌-◌, ◌*◌, ◌^◌, ◌<◌, ◌≤◌, Bool, true, false, cond, ◌&&◌, eqb, ltb, [], ◌∷◌, length, get_or, take, drop, pos, neg_ℤ, IfSome, Some, None, Option, sym, refl, ap, ◌∙◌, ⊎_elim, arith}
 use Rattle.std.specs.Char.{is_ascii_digit}
+use Rattle.std.proofs.Math.Bool.{and-false}
 use Rattle.std.proofs.lemmas.List.{take_all, take_rest}
 use Rattle.std.proofs.lemmas.List.Sums.{prefix_len-le-length}
 use Rattle.std.proofs.lemmas.Bool.{cases_Bool}
@@ -18,12 +19,8 @@ dotted (b ∷ bs) h =
     (λ (y : eqb b 46 ≡ true). let d : is_ascii_digit b ≡ false = grind (arith, nat_tests) in ap (λ t. t && every is_ascii_digit bs) d)
     (λ (n : eqb b 46 ≡ false).
     let e = dotted bs (sym (within_cons 46 b bs n) ∙ h) in
-    ap (λ t. is_ascii_digit b && t) e ∙ and_false (is_ascii_digit b))
+    ap (λ t. is_ascii_digit b && t) e ∙ and-false (is_ascii_digit b))
     (cases_Bool (eqb b 46))
-  where
-    and_false : (t : Bool) → t && false ≡ false
-    and_false true = refl
-    and_false false = refl
 
 alone : (s : Bytes) → ltb (span_to 46 s) (length s) ≡ false → pieces 46 s ≡ s ∷ []
 alone s n =
@@ -43,11 +40,7 @@ then_none None = refl
 then_none (Some v) = refl
 
 no_digits : (n : ℕ) (p : Bytes) → every is_ascii_digit p ≡ false → digits_form n p ≡ None
-no_digits n p e = ap (λ t. provided (between 1 n (length p) && t) (written 0 p)) e ∙ never (between 1 n (length p))
-  where
-    never : (t : Bool) → provided (t && false) (written 0 p) ≡ None
-    never true = refl
-    never false = refl
+no_digits n p e = ap (λ t. provided (between 1 n (length p) && t) (written 0 p)) e ∙ ap (λ t. provided t (written 0 p)) (and-false (between 1 n (length p)))
 
 -- what is left after the dot is one piece, or has a dot of its own and is no number
 two : (most : ℕ) (w p : Bytes) → decimal_of most (w ∷ pieces 46 p) ≡ in_two most w p
@@ -114,13 +107,3 @@ module _ (most limit w : ℕ) (s : Bytes) (e : w ≡ span_to 46 s) where
 pub at_most_small : (limit n : ℕ) (o : Option ℕ) → o ≡ at_most limit n → IfSome o (λ v. v ≤ limit)
 at_most_small limit n None e = tt
 at_most_small limit n (Some v) e = grind (arith, nat_tests)
-
--- ---- Prices
-
-pub price_minus : (s : Bytes) → 0 < length s → get_or s 0 0 ≡ 45 → price_form s ≡ then (decimal_form 7 1_000_000 (drop 1 s)) (λ n. Some (Some (neg_ℤ (pos n))))
-price_minus [] h e = absurd (omega arith)
-price_minus (b ∷ bs) h e = let t : eqb b 45 ≡ true = grind (arith, nat_tests) in ap (λ t. cond t (then (decimal_form 7 1_000_000 bs) (λ n. Some (Some (neg_ℤ (pos n))))) (then (decimal_form 7 1_000_000 (b ∷ bs)) (λ n. Some (Some (pos n))))) t
-
-pub price_plain : (s : Bytes) → 0 < length s → (get_or s 0 0 ≡ 45 → ⊥) → price_form s ≡ then (decimal_form 7 1_000_000 s) (λ n. Some (Some (pos n)))
-price_plain [] h e = absurd (omega arith)
-price_plain (b ∷ bs) h e = let t : eqb b 45 ≡ false = grind (arith, nat_tests) in ap (λ t. cond t (then (decimal_form 7 1_000_000 bs) (λ n. Some (Some (neg_ℤ (pos n))))) (then (decimal_form 7 1_000_000 (b ∷ bs)) (λ n. Some (Some (pos n))))) t

@@ -26,7 +26,3 @@ power_more v b i l d = rw (add-one, pow-suc) (omega arith)
 
 pub power_ten : (v i : ℕ) → v < 10 ^ i → i ≤ 10 → v < 10000000000
 power_ten v i l d = omega (arith, pow-le-pow_right {n = 10} (omega arith) {i = i} {j = 10} d)
-
-pub code_by : (s : List ℕ) (a b c d : Bool) → eqb (length s) 12 ≡ a → every capital_or_digit (take 9 s) ≡ b → eqb (get_or s 9 0) 46 ≡ c → every is_ascii_uppercase (drop 10 s) ≡ d → code_form s ≡ provided (a && (b && (c && d))) s
-unfolding code_form
-code_by s a b c d p q r t = λ i. provided (p i && (q i && (r i && t i))) s

@@ -51,7 +51,7 @@ impl ByteClass for CapitalsOrDigits {
     ghost member = { capital_or_digit };
 
     fn has(b: u8) -> bool {
-        b.is_ascii_uppercase() || b.is_ascii_digit()
+        Capitals::has(b) || Digits::has(b)
     }
 }
 
