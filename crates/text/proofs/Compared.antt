@@ -37,19 +37,9 @@ text_same {n} t u e =
           (λ j. ×₃_prop le_prop (Coded-set coded_ℕ _ _) (Coded-set (coded_list coded_ℕ) _ _)) t.ok u.ok i;
     }
 
--- texts of two lengths differ
-pub never_longer : (xs ys : List ℕ) → (length xs ≡ length ys → ⊥) → false ≡ bytes_eq xs ys
-never_longer xs ys n =
-    same_from_decides _ _ ((λ e. absurd (let z : ◌≡◌ {A = ℕ} 0 1 = cc in omega arith)), (λ e. absurd (n (ap length e)))) (bytes_eq-Decides xs ys)
-
 -- texts of one length are compared with the zeros after them
 pub same_with_zeros : {n : ℕ} (t u : Text n) (r : Bool) → t.len ≡ u.len → r ≡ bytes_eq t.bytes u.bytes → r ≡ bytes_eq (text_of t) (text_of u)
 same_with_zeros t u r l e =
     e ∙ same_from_decides _ _
     (Decides-like _ (λ p i. take (l i) (p i)) (λ q. ap (λ x. x.bytes) (text_same t u q)) (bytes_eq-Decides t.bytes u.bytes))
     (bytes_eq-Decides (text_of t) (text_of u))
-
-pub length_differs : {n : ℕ} (t u : Text n) → (t.len ≡ u.len → ⊥) → false ≡ bytes_eq (text_of t) (text_of u)
-length_differs t u d =
-    never_longer (text_of t) (text_of u)
-    (λ e. d (sym (length-take-le t.len t.bytes (omega arith)) ∙ e ∙ length-take-le u.len u.bytes (omega arith)))

@@ -44,18 +44,19 @@ impl<const N: usize> Text<N> {
         &self.bytes[..self.len as usize]
     }
 
-    // Whether two texts are the same. The bytes past the lengths are zero, so all N are compared, with no way out early.
+    // Whether two texts are the same.
     pub fn same(&self, other: &Text<N>) -> bool
         ensures { result ≡ bytes_eq (text_of self.now) (text_of other.now) }
     {
-        self.len == other.len && same_bytes(&self.bytes, &other.bytes)
+        self == other
     }
 
     // Which of two texts comes first.
+    #[tactic(auto, using(crate::proofs::Compared::lex_order))]
     pub fn compare(&self, other: &Text<N>) -> Ordering
         ensures { result ≡ order (text_of self.now) (text_of other.now) }
     {
-        compare_bytes(self.as_slice(), other.as_slice())
+        self.cmp(other)
     }
 }
 
@@ -83,6 +84,7 @@ pub fn is_among<const N: usize>(texts: &[Text<N>], text: &[u8]) -> bool
 }
 
 // Which of two texts comes first: by the first byte from the left that differs, and a text before what it begins.
+#[tactic(auto, using(crate::proofs::Compared::lex_order))]
 pub fn compare_bytes(a: &[u8], b: &[u8]) -> Ordering
     ensures { result ≡ order a.now b.now }
 {

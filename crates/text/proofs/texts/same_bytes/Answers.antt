@@ -1,5 +1,4 @@
 use Rattle.std.proofs.Common.{true, ◌∙◌}
-use Rattle.text.proofs.Compared.{never_longer}
 use Rattle.text.proofs.Tests.{fold_same}
 use Rattle.text.proofs.texts.same_bytes.Goals as goal
 
