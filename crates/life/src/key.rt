@@ -6,7 +6,7 @@ ghost use Rattle.life.specs.Fnv.{word_of};
 use text::{Kind, Side, Text};
 
 // A key keeps the FNV-1a word of its id, which chains and check words start from.
-#[derive(Clone, Copy)]
+#[derive(Clone, Copy, PartialEq, Eq, PartialOrd, Ord)]
 pub struct Key {
     pub kind: Kind,
     pub id: Text<52>,

@@ -1,9 +1,0 @@
-use Rattle.std.proofs.Common.{◌∙◌, arith}
-use Rattle.std.proofs.lemmas.Bool.Decides.{nat_tests}
-use Rattle.life.proofs.KeyOrder.{other_word}
-use Rattle.life.proofs.key.Key.same.Goals as goal
-
-pub returns-else-self-other : goal.returns-else-self-other
-returns-else-self-other c =
-    let l = c.if-self-other.false in
-    grind (arith, nat_tests) ∙ other_word c.args.self.now c.args.other.now l
