@@ -12,13 +12,6 @@ use text::{Kind, Side, Text};
 // A key names one of the 63 contracts, or none (0).
 const CONTRACTS: u8 = 64;
 
-// The bytes as an array, if there are as many.
-fn array<const N: usize>(s: &[u8]) -> Option<[u8; N]>
-    ensures { result ≡ provided (length s.now == N) s.now }
-{
-    s.try_into().ok()
-}
-
 impl Key {
     // The one place where a key is made. None where the id has over 52 bytes, the contract number is over 63, the venue
     // has not 4 bytes or the participant not 12.
@@ -36,8 +29,8 @@ impl Key {
             return None;
         }
         let text = Text::new(id)?;
-        let venue = array(venue)?;
-        let participant = array(participant)?;
+        let venue = venue.try_into().ok()?;
+        let participant = participant.try_into().ok()?;
         let word = hash(text.as_slice());
         Some(Key {
             kind,
