@@ -14,6 +14,9 @@ use Rattle.text.specs.declared.words.Kind.{Kind}
 use Rattle.text.specs.declared.words.Kind.TheVariants.{Order, Trade}
 use Rattle.text.specs.declared.words.Side.{Side}
 use Rattle.text.specs.declared.words.Side.TheVariants.{Buy, Sell}
+use denote.Enum.Declared.{tag_of}
+use Rattle.std.specs.Cmp.Lexicographic.{slice_cmp}
+use Rattle.text.specs.contracts.words.Kind.{the_type as kind_type}
 use Rattle.text.specs.contracts.words.KindPartialEq.TheImpl as kind_same
 use Rattle.text.specs.contracts.words.KindOrd.TheImpl as kind_ord
 use Rattle.text.specs.contracts.words.SidePartialEq.TheImpl as side_same
@@ -97,6 +100,33 @@ cmp_is a b = λ i.
     (ordering_then (lex_order a.venue b.venue i)
     (ordering_then (lex_order a.participant b.participant i)
     ((side_cmp a.side b.side ∙ sym (ends (order (side_place a.side ∷ []) (side_place b.side ∷ [])))) i)))))
+
+kind_tag : (k l : Kind) → nat_cmp (tag_of kind_type k) (tag_of kind_type l) ≡ kind_ord.ghosts.cmp k l
+kind_tag Order Order = refl
+kind_tag Order Trade = refl
+kind_tag Trade Order = refl
+kind_tag Trade Trade = refl
+
+then_assoc : (o p q : Ordering) → ordering_then (ordering_then o p) q ≡ ordering_then o (ordering_then p q)
+then_assoc Less p q = refl
+then_assoc Equal p q = refl
+then_assoc Greater p q = refl
+
+-- what `compare` found, a part at a time
+pub compared : (a b : Key) (k i n v p r : Ordering)
+    → k ≡ nat_cmp (tag_of kind_type a.kind) (tag_of kind_type b.kind)
+    → i ≡ ordering_then k (slice_cmp nat_cmp (text_of a.id) (text_of b.id))
+    → n ≡ ordering_then i (nat_cmp a.contract b.contract)
+    → v ≡ ordering_then n (slice_cmp nat_cmp a.venue b.venue)
+    → p ≡ ordering_then v (slice_cmp nat_cmp a.participant b.participant)
+    → r ≡ ordering_then p (side_ord.ghosts.cmp a.side b.side)
+    → r ≡ rank a b
+compared a b k i n v p r ek ei en ev ep er =
+    let e : r ≡ ordering_then (ordering_then (ordering_then (ordering_then (ordering_then k (slice_cmp nat_cmp (text_of a.id) (text_of b.id)))
+    (nat_cmp a.contract b.contract)) (slice_cmp nat_cmp a.venue b.venue)) (slice_cmp nat_cmp a.participant b.participant)) (side_ord.ghosts.cmp a.side b.side) = cc in
+    e ∙ simp then_assoc (ap (λ o. ordering_then o (ordering_then (slice_cmp nat_cmp (text_of a.id) (text_of b.id)) (ordering_then (nat_cmp a.contract b.contract)
+    (ordering_then (slice_cmp nat_cmp a.venue b.venue) (ordering_then (slice_cmp nat_cmp a.participant b.participant) (side_ord.ghosts.cmp a.side b.side)))))) (ek ∙ kind_tag a.kind b.kind))
+    ∙ cmp_is a b
 
 kind_eq : (k l : Kind) → kind_same.ghosts.eq k l ≡ eqb (kind_place k) (kind_place l)
 kind_eq Order Order = refl

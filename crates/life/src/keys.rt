@@ -55,6 +55,12 @@ impl Key {
         ensures is { result ≡ rank_of (parts self.now) (parts other.now) }
         ensures strict { Strict }
     {
-        self.cmp(other)
+        (self.kind as u8)
+            .cmp(&(other.kind as u8))
+            .then_with(|| self.id.cmp(&other.id))
+            .then_with(|| self.contract.cmp(&other.contract))
+            .then_with(|| self.venue.cmp(&other.venue))
+            .then_with(|| self.participant.cmp(&other.participant))
+            .then_with(|| self.side.cmp(&other.side))
     }
 }
