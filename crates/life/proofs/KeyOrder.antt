@@ -1,5 +1,5 @@
 -- The order of keys is strict and total, and a key is its parts.
-use Rattle.std.proofs.Common.{◌≡◌, ℕ, ◌<◌, Bool, true, false, ◌&&◌, eqb, ◌⊎◌, List, [], ◌∷◌, get_or, Ordering, Less, Equal, Greater, sym, refl, ap, ◌∙◌, inl, inr, ⊎_elim, true≢false, arith}
+use Rattle.std.proofs.Common.{◌≡◌, ℕ, ◌<◌, Bool, true, false, not, ◌&&◌, eqb, ◌⊎◌, List, [], ◌∷◌, get_or, Ordering, Less, Equal, Greater, sym, refl, ap, ◌∙◌, inl, inr, ⊎_elim, true≢false, arith}
 use mathlib.Core.HLevel.{is_prop→PathP}
 use native.Mathlib.Bridge.{le_prop}
 use native.Mathlib.Nat.{ℕ_set}
@@ -14,9 +14,7 @@ use Rattle.text.specs.declared.words.Kind.{Kind}
 use Rattle.text.specs.declared.words.Kind.TheVariants.{Order, Trade}
 use Rattle.text.specs.declared.words.Side.{Side}
 use Rattle.text.specs.declared.words.Side.TheVariants.{Buy, Sell}
-use denote.Enum.Declared.{tag_of}
 use Rattle.std.specs.Cmp.Lexicographic.{slice_cmp}
-use Rattle.text.specs.contracts.words.Kind.{the_type as kind_type}
 use Rattle.text.specs.contracts.words.KindPartialEq.TheImpl as kind_same
 use Rattle.text.specs.contracts.words.KindOrd.TheImpl as kind_ord
 use Rattle.text.specs.contracts.words.SidePartialEq.TheImpl as side_same
@@ -101,32 +99,53 @@ cmp_is a b = λ i.
     (ordering_then (lex_order a.participant b.participant i)
     ((side_cmp a.side b.side ∙ sym (ends (order (side_place a.side ∷ []) (side_place b.side ∷ [])))) i)))))
 
-kind_tag : (k l : Kind) → nat_cmp (tag_of kind_type k) (tag_of kind_type l) ≡ kind_ord.ghosts.cmp k l
-kind_tag Order Order = refl
-kind_tag Order Trade = refl
-kind_tag Trade Order = refl
-kind_tag Trade Trade = refl
+-- kinds that are not the same decide, and others do not
+kinds_differ : (k l : Kind) (o : Ordering) → true ≡ not (kind_same.ghosts.eq k l) → ordering_then (kind_ord.ghosts.cmp k l) o ≡ kind_ord.ghosts.cmp k l
+kinds_differ Order Order o e = absurd (true≢false e)
+kinds_differ Order Trade o e = refl
+kinds_differ Trade Order o e = refl
+kinds_differ Trade Trade o e = absurd (true≢false e)
+
+kinds_agree : (k l : Kind) (o : Ordering) → false ≡ not (kind_same.ghosts.eq k l) → ordering_then (kind_ord.ghosts.cmp k l) o ≡ o
+kinds_agree Order Order o e = refl
+kinds_agree Order Trade o e = absurd (true≢false (sym e))
+kinds_agree Trade Order o e = absurd (true≢false (sym e))
+kinds_agree Trade Trade o e = refl
 
 then_assoc : (o p q : Ordering) → ordering_then (ordering_then o p) q ≡ ordering_then o (ordering_then p q)
 then_assoc Less p q = refl
 then_assoc Equal p q = refl
 then_assoc Greater p q = refl
 
--- what `compare` found, a part at a time
-pub compared : (a b : Key) (k i n v p r : Ordering)
-    → k ≡ nat_cmp (tag_of kind_type a.kind) (tag_of kind_type b.kind)
-    → i ≡ ordering_then k (slice_cmp nat_cmp (text_of a.id) (text_of b.id))
+-- what `compare` found: the kinds differ, or the other parts, one at a time
+after_kind : Key → Key → Ordering
+after_kind a b =
+    ordering_then (slice_cmp nat_cmp (text_of a.id) (text_of b.id))
+    (ordering_then (nat_cmp a.contract b.contract)
+    (ordering_then (slice_cmp nat_cmp a.venue b.venue)
+    (ordering_then (slice_cmp nat_cmp a.participant b.participant) (side_ord.ghosts.cmp a.side b.side))))
+
+kind_first : (a b : Key) → ordering_then (kind_ord.ghosts.cmp a.kind b.kind) (after_kind a b) ≡ rank a b
+unfolding after_kind
+kind_first a b = cmp_is a b
+
+pub by_kind : (a b : Key) (r : Ordering) → true ≡ not (kind_same.ghosts.eq a.kind b.kind) → r ≡ kind_ord.ghosts.cmp a.kind b.kind → r ≡ rank a b
+by_kind a b r d e = e ∙ sym (kinds_differ a.kind b.kind (after_kind a b) d) ∙ kind_first a b
+
+pub by_others : (a b : Key) (i n v p r : Ordering)
+    → false ≡ not (kind_same.ghosts.eq a.kind b.kind)
+    → i ≡ slice_cmp nat_cmp (text_of a.id) (text_of b.id)
     → n ≡ ordering_then i (nat_cmp a.contract b.contract)
     → v ≡ ordering_then n (slice_cmp nat_cmp a.venue b.venue)
     → p ≡ ordering_then v (slice_cmp nat_cmp a.participant b.participant)
     → r ≡ ordering_then p (side_ord.ghosts.cmp a.side b.side)
     → r ≡ rank a b
-compared a b k i n v p r ek ei en ev ep er =
-    let e : r ≡ ordering_then (ordering_then (ordering_then (ordering_then (ordering_then k (slice_cmp nat_cmp (text_of a.id) (text_of b.id)))
+unfolding after_kind
+by_others a b i n v p r d ei en ev ep er =
+    let e : r ≡ ordering_then (ordering_then (ordering_then (ordering_then (slice_cmp nat_cmp (text_of a.id) (text_of b.id))
     (nat_cmp a.contract b.contract)) (slice_cmp nat_cmp a.venue b.venue)) (slice_cmp nat_cmp a.participant b.participant)) (side_ord.ghosts.cmp a.side b.side) = cc in
-    e ∙ simp then_assoc (ap (λ o. ordering_then o (ordering_then (slice_cmp nat_cmp (text_of a.id) (text_of b.id)) (ordering_then (nat_cmp a.contract b.contract)
-    (ordering_then (slice_cmp nat_cmp a.venue b.venue) (ordering_then (slice_cmp nat_cmp a.participant b.participant) (side_ord.ghosts.cmp a.side b.side)))))) (ek ∙ kind_tag a.kind b.kind))
-    ∙ cmp_is a b
+    let f : r ≡ after_kind a b = e ∙ simp then_assoc in
+    f ∙ sym (kinds_agree a.kind b.kind (after_kind a b) d) ∙ kind_first a b
 
 kind_eq : (k l : Kind) → kind_same.ghosts.eq k l ≡ eqb (kind_place k) (kind_place l)
 kind_eq Order Order = refl

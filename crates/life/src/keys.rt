@@ -55,9 +55,11 @@ impl Key {
         ensures is { result ≡ rank_of (parts self.now) (parts other.now) }
         ensures strict { Strict }
     {
-        (self.kind as u8)
-            .cmp(&(other.kind as u8))
-            .then_with(|| self.id.cmp(&other.id))
+        if self.kind != other.kind {
+            return self.kind.cmp(&other.kind);
+        }
+        self.id
+            .cmp(&other.id)
             .then_with(|| self.contract.cmp(&other.contract))
             .then_with(|| self.venue.cmp(&other.venue))
             .then_with(|| self.participant.cmp(&other.participant))
