@@ -10,9 +10,7 @@ const PRIME: u64 = 1099511628211;
 pub fn hash_on(start: u64, bytes: &[u8]) -> u64
     ensures { result ≡ fnv start bytes.now }
 {
-    bytes
-        .iter()
-        .fold(start, |word, b| (word ^ u64::from(*b)).wrapping_mul(PRIME))
+    bytes.iter().fold(start, |word, b| (word ^ u64::from(*b)).wrapping_mul(PRIME))
 }
 
 // The word of the bytes.

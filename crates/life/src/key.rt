@@ -5,7 +5,8 @@ ghost use Rattle.life.specs.Fnv.{word_of};
 
 use text::{Kind, Side, Text};
 
-// Keys come in the order of their parts. A key keeps the FNV-1a word of its id, which chains and check words start from.
+// A key keeps the FNV-1a word of its id, which chains and check words start from. Its comparisons leave the word out, which
+// follows from the id.
 #[derive(Clone, Copy)]
 #[derive_where(PartialEq, Eq, PartialOrd, Ord)]
 pub struct Key {

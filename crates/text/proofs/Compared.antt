@@ -1,9 +1,9 @@
 -- `cmp` on slices of numbers answers `order`; equal texts are equal values.
-use Rattle.std.proofs.Common.{◌≡◌, ℕ, ◌+◌, ◌-◌, ◌<◌, ◌≤◌, Bool, false, List, [], ◌∷◌, ◌++◌, length, take, drop, set, replicate, sym, refl, ap, ◌∙◌, arith}
+use Rattle.std.proofs.Common.{◌≡◌, ℕ, ◌-◌, ◌≤◌, Bool, List, [], ◌∷◌, ◌++◌, length, take, drop, replicate, sym, refl, ap, ◌∙◌, arith}
 use mathlib.Core.HLevel.{is_prop→PathP, ×₃_prop}
 use native.Mathlib.Bridge.{le_prop}
 use base.Stored.{Coded-set, coded_ℕ, coded_list}
-use Rattle.std.proofs.lemmas.List.{take-append-drop, drop-set-lt, drop-replicate, length-take-le, drop-drop}
+use Rattle.std.proofs.lemmas.List.{take-append-drop, length-take-le}
 use Rattle.std.specs.Cmp.Lexicographic.{slice_cmp}
 use Rattle.std.specs.Ordering.{nat_cmp, ordering_then}
 use Rattle.std.specs.Str.{bytes_eq}

@@ -1,5 +1,5 @@
 -- A decimal, cut at its dot.
-use Rattle.std.proofs.Common.{◌≡◌, ℕ, ◌+◌, ◌-◌, ◌*◌, ◌^◌, ◌<◌, ◌≤◌, Bool, true, false, cond, ◌&&◌, eqb, ltb, [], ◌∷◌, length, get_or, take, drop, pos, neg_ℤ, IfSome, Some, None, Option, sym, refl, ap, ◌∙◌, ⊎_elim, arith}
+use Rattle.std.proofs.Common.{◌≡◌, ℕ, ◌+◌, ◌-◌, ◌*◌, ◌^◌, ◌<◌, ◌≤◌, true, false, ◌&&◌, eqb, ltb, [], ◌∷◌, length, take, drop, IfSome, Some, None, Option, sym, refl, ap, ◌∙◌, ⊎_elim, arith}
 use Rattle.std.specs.Char.{is_ascii_digit}
 use Rattle.std.proofs.Math.Bool.{and-false}
 use Rattle.std.proofs.lemmas.List.{take_all, take_rest}
@@ -8,7 +8,7 @@ use Rattle.std.proofs.lemmas.Bool.{cases_Bool}
 use Rattle.std.proofs.lemmas.Bool.Decides.{nat_tests}
 use Rattle.text.specs.Bytes.{Bytes, every, pieces, provided, then, between}
 use Rattle.text.specs.Cuts.{span_to, front_to, pace_to}
-use Rattle.text.specs.Forms.{digits_form, written, at_most, decimal_of, decimal_form, price_form}
+use Rattle.text.specs.Forms.{digits_form, written, at_most, decimal_of, decimal_form}
 use Rattle.text.proofs.Pieces.{first_after, after_at, within_cons}
 
 -- a text with a dot is not all digits

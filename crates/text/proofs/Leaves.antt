@@ -1,10 +1,9 @@
 -- One byte more of a word or of a numeral.
-use Rattle.std.proofs.Common.{◌≡◌, ℕ, ◌+◌, ◌-◌, ◌*◌, ◌^◌, ◌<◌, ◌≤◌, Bool, true, false, ◌&&◌, eqb, List, length, get_or, take, drop, ◌∙◌, pow-suc, add-one, arith}
+use Rattle.std.proofs.Common.{◌≡◌, ℕ, ◌+◌, ◌-◌, ◌*◌, ◌^◌, ◌<◌, ◌≤◌, Bool, true, false, List, length, get_or, drop, ◌∙◌, pow-suc, add-one, arith}
 use native.Mathlib.Nat.{pow-le-pow_right}
 use Rattle.std.proofs.lemmas.List.{at_drop_more, at_drop_all}
-use Rattle.std.specs.Char.{is_ascii_uppercase}
-use Rattle.text.specs.Bytes.{every, provided, capital_or_digit}
-use Rattle.text.specs.Forms.{written, code_form}
+use Rattle.text.specs.Bytes.{every}
+use Rattle.text.specs.Forms.{written}
 
 pub every_yes : (p : ℕ → Bool) (s : List ℕ) (i : ℕ) → i < length s → p (get_or s i 0) ≡ true → every p (drop i s) ≡ every p (drop (i + 1) s)
 every_yes p s i l d = at_drop_more (every p) s i 0 l ∙ rw d

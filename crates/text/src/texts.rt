@@ -78,9 +78,11 @@ fn same_places(a: &[u8], b: &[u8]) -> bool
 pub fn is_among<const N: usize>(texts: &[Text<N>], text: &[u8]) -> bool
     ensures { result ≡ among (texts_of texts.now) text.now }
 {
-    texts.iter().any(|t| -> bool
-        ensures { result ≡ bytes_eq text.entry.now (text_of t.now) }
-    { same_bytes(text, t.as_slice()) })
+    texts.iter().any(
+        |t| -> bool
+            ensures { result ≡ bytes_eq text.entry.now (text_of t.now) }
+        { same_bytes(text, t.as_slice()) },
+    )
 }
 
 // Which of two texts comes first: by the first byte from the left that differs, and a text before what it begins.
