@@ -1,38 +1,43 @@
 -- The order of keys is strict and total, and a key is its parts.
-use Rattle.std.proofs.Common.{◌≡◌, ℕ, ◌<◌, Bool, true, false, ◌&&◌, eqb, ◌⊎◌, List, [], ◌∷◌, get_or, Ordering, Less, Equal, Greater, sym, refl, ap, ◌∙◌, inl, inr, ⊎_elim, true≢false, arith}
+use Rattle.std.proofs.Common.{◌≡◌, ℕ, ◌<◌, Bool, true, false, not, ◌&&◌, eqb, ◌⊎◌, List, [], ◌∷◌, get_or, Ordering, Less, Equal, Greater, sym, refl, ap, ◌∙◌, inl, inr, ⊎_elim, true≢false, arith}
 use mathlib.Core.HLevel.{is_prop→PathP}
 use native.Mathlib.Bridge.{le_prop}
 use native.Mathlib.Nat.{ℕ_set}
-use Rattle.std.specs.Ordering.{is_lt, ordering_then, ordering_reverse}
-use Rattle.std.specs.Cmp.{IsTotalOrder, nat_cmp_total}
-use Rattle.std.specs.Cmp.Lexicographic.{slice_cmp, lists_total}
+use Rattle.std.specs.Ordering.{nat_cmp, is_lt, ordering_then, ordering_reverse}
 use Rattle.std.specs.Str.{bytes_eq}
 use Rattle.std.proofs.lemmas.Slice.Eq.{bytes_eq-Decides}
 use Rattle.std.proofs.lemmas.Bool.{and_from, and_parts, eqb-true, eq-eqb, cases_Bool}
 use Rattle.std.proofs.lemmas.Bool.Decides.{nat_tests}
 use Rattle.text.specs.Texts.{text_of, lexical, number_order, order}
-use Rattle.text.proofs.Compared.{text_same}
+use Rattle.text.proofs.Compared.{text_same, lex_order}
 use Rattle.text.specs.declared.words.Kind.{Kind}
 use Rattle.text.specs.declared.words.Kind.TheVariants.{Order, Trade}
 use Rattle.text.specs.declared.words.Side.{Side}
 use Rattle.text.specs.declared.words.Side.TheVariants.{Buy, Sell}
+use Rattle.std.specs.Cmp.Lexicographic.{slice_cmp}
+use Rattle.text.specs.contracts.words.KindPartialEq.TheImpl as kind_same
+use Rattle.text.specs.contracts.words.KindOrd.TheImpl as kind_ord
+use Rattle.text.specs.contracts.words.SidePartialEq.TheImpl as side_same
+use Rattle.text.specs.contracts.words.SideOrd.TheImpl as side_ord
 use Rattle.life.specs.declared.key.Key.{Key}
+use Rattle.life.specs.contracts.key.KeyPartialEq.TheImpl as key_equal
+use Rattle.life.specs.contracts.key.KeyOrd.TheImpl as key_ord
+use Rattle.life.specs.contracts.key.KeyOrd.TheImpl.Laws.{total-law}
 use Rattle.life.specs.Fnv.{word_of}
 use Rattle.life.specs.Parts.{KeyParts, key_parts}
 use Rattle.life.specs.Keys.{kind_place, side_place, listed_parts, same_key, key_order, alike, rank, Before, StrictOrder}
-use Rattle.std.specs.Ordering as std_orderings
 
-kind_same : (a b : Kind) → kind_place a ≡ kind_place b → a ≡ b
-kind_same Order Order e = refl
-kind_same Order Trade e = absurd (omega arith)
-kind_same Trade Order e = absurd (omega arith)
-kind_same Trade Trade e = refl
+kind_from : (a b : Kind) → kind_place a ≡ kind_place b → a ≡ b
+kind_from Order Order e = refl
+kind_from Order Trade e = absurd (omega arith)
+kind_from Trade Order e = absurd (omega arith)
+kind_from Trade Trade e = refl
 
-side_same : (a b : Side) → side_place a ≡ side_place b → a ≡ b
-side_same Buy Buy e = refl
-side_same Buy Sell e = absurd (omega arith)
-side_same Sell Buy e = absurd (omega arith)
-side_same Sell Sell e = refl
+side_from : (a b : Side) → side_place a ≡ side_place b → a ≡ b
+side_from Buy Buy e = refl
+side_from Buy Sell e = absurd (omega arith)
+side_from Sell Buy e = absurd (omega arith)
+side_from Sell Sell e = refl
 
 -- a key is its parts: the word is that of the id
 pub key_from : (a b : Key) → key_parts a ≡ key_parts b → a ≡ b
@@ -54,40 +59,119 @@ key_from a b e =
 
 parts_from_list : (a b : KeyParts) → listed_parts a ≡ listed_parts b → a ≡ b
 parts_from_list a b p = λ i. record {
-  of_kind = kind_same a.of_kind b.of_kind (ap (λ ps. get_or (get_or ps 0 []) 0 0) p) i;
+  of_kind = kind_from a.of_kind b.of_kind (ap (λ ps. get_or (get_or ps 0 []) 0 0) p) i;
   of_id = get_or (p i) 1 [];
   of_contract = get_or (get_or (p i) 2 []) 0 0;
   of_venue = get_or (p i) 3 [];
   of_participant = get_or (p i) 4 [];
-  of_side = side_same a.of_side b.of_side (ap (λ ps. get_or (get_or ps 5 []) 0 0) p) i;
+  of_side = side_from a.of_side b.of_side (ap (λ ps. get_or (get_or ps 5 []) 0 0) p) i;
 }
 
--- the library's order of lists is this one
-as_lex : {X : Type 0} {R : X → X → Ordering} (o : IsTotalOrder R) (f : X → X → Ordering) → ((x y : X) → f x y ≡ R x y)
-    → (xs ys : List X) → lexical f xs ys ≡ slice_cmp R xs ys
-as_lex o f h [] [] = refl
-as_lex o f h [] (y ∷ ys) = refl
-as_lex o f h (x ∷ xs) [] = refl
-as_lex o f h (x ∷ xs) (y ∷ ys) = λ i. ordering_then (h x y i) (as_lex o f h xs ys i)
+-- ---- The derived comparisons are those of the parts
 
-as_number : (x y : ℕ) → number_order x y ≡ std_orderings.nat_cmp x y
-as_number x y = grind (arith, nat_tests)
+kind_cmp : (k l : Kind) → kind_ord.ghosts.cmp k l ≡ order (kind_place k ∷ []) (kind_place l ∷ [])
+kind_cmp Order Order = refl
+kind_cmp Order Trade = refl
+kind_cmp Trade Order = refl
+kind_cmp Trade Trade = refl
 
-as_order : (xs ys : List ℕ) → order xs ys ≡ slice_cmp std_orderings.nat_cmp xs ys
-as_order = as_lex nat_cmp_total number_order as_number
+side_cmp : (s t : Side) → side_ord.ghosts.cmp s t ≡ order (side_place s ∷ []) (side_place t ∷ [])
+side_cmp Buy Buy = refl
+side_cmp Buy Sell = refl
+side_cmp Sell Buy = refl
+side_cmp Sell Sell = refl
 
-texts : Key → List (List ℕ)
-texts k = listed_parts (key_parts k)
+ends : (o : Ordering) → ordering_then o Equal ≡ o
+ends Less = refl
+ends Equal = refl
+ends Greater = refl
 
-as_parts : (a b : Key) → rank a b ≡ slice_cmp (slice_cmp std_orderings.nat_cmp) (texts a) (texts b)
-unfolding rank key_order texts
-as_parts a b = as_lex (lists_total nat_cmp_total) order as_order (texts a) (texts b)
+contract_cmp : (x y : ℕ) → nat_cmp x y ≡ order (x ∷ []) (y ∷ [])
+contract_cmp x y = sym (ends (nat_cmp x y)) ∙ lex_order (x ∷ []) (y ∷ [])
+
+pub cmp_is : (a b : Key) → key_ord.ghosts.cmp a b ≡ rank a b
+unfolding rank key_order
+cmp_is a b = λ i.
+    ordering_then (kind_cmp a.kind b.kind i)
+    (ordering_then (lex_order (text_of a.id) (text_of b.id) i)
+    (ordering_then (contract_cmp a.contract b.contract i)
+    (ordering_then (lex_order a.venue b.venue i)
+    (ordering_then (lex_order a.participant b.participant i)
+    ((side_cmp a.side b.side ∙ sym (ends (order (side_place a.side ∷ []) (side_place b.side ∷ [])))) i)))))
+
+-- kinds that are not the same decide, and others do not
+kinds_differ : (k l : Kind) (o : Ordering) → true ≡ not (kind_same.ghosts.eq k l) → ordering_then (kind_ord.ghosts.cmp k l) o ≡ kind_ord.ghosts.cmp k l
+kinds_differ Order Order o e = absurd (true≢false e)
+kinds_differ Order Trade o e = refl
+kinds_differ Trade Order o e = refl
+kinds_differ Trade Trade o e = absurd (true≢false e)
+
+kinds_agree : (k l : Kind) (o : Ordering) → false ≡ not (kind_same.ghosts.eq k l) → ordering_then (kind_ord.ghosts.cmp k l) o ≡ o
+kinds_agree Order Order o e = refl
+kinds_agree Order Trade o e = absurd (true≢false (sym e))
+kinds_agree Trade Order o e = absurd (true≢false (sym e))
+kinds_agree Trade Trade o e = refl
+
+then_assoc : (o p q : Ordering) → ordering_then (ordering_then o p) q ≡ ordering_then o (ordering_then p q)
+then_assoc Less p q = refl
+then_assoc Equal p q = refl
+then_assoc Greater p q = refl
+
+-- what `compare` found: the kinds differ, or the other parts, one at a time
+after_kind : Key → Key → Ordering
+after_kind a b =
+    ordering_then (slice_cmp nat_cmp (text_of a.id) (text_of b.id))
+    (ordering_then (nat_cmp a.contract b.contract)
+    (ordering_then (slice_cmp nat_cmp a.venue b.venue)
+    (ordering_then (slice_cmp nat_cmp a.participant b.participant) (side_ord.ghosts.cmp a.side b.side))))
+
+kind_first : (a b : Key) → ordering_then (kind_ord.ghosts.cmp a.kind b.kind) (after_kind a b) ≡ rank a b
+unfolding after_kind
+kind_first a b = cmp_is a b
+
+pub by_kind : (a b : Key) (r : Ordering) → true ≡ not (kind_same.ghosts.eq a.kind b.kind) → r ≡ kind_ord.ghosts.cmp a.kind b.kind → r ≡ rank a b
+by_kind a b r d e = e ∙ sym (kinds_differ a.kind b.kind (after_kind a b) d) ∙ kind_first a b
+
+pub by_others : (a b : Key) (i n v p r : Ordering)
+    → false ≡ not (kind_same.ghosts.eq a.kind b.kind)
+    → i ≡ slice_cmp nat_cmp (text_of a.id) (text_of b.id)
+    → n ≡ ordering_then i (nat_cmp a.contract b.contract)
+    → v ≡ ordering_then n (slice_cmp nat_cmp a.venue b.venue)
+    → p ≡ ordering_then v (slice_cmp nat_cmp a.participant b.participant)
+    → r ≡ ordering_then p (side_ord.ghosts.cmp a.side b.side)
+    → r ≡ rank a b
+unfolding after_kind
+by_others a b i n v p r d ei en ev ep er =
+    let e : r ≡ ordering_then (ordering_then (ordering_then (ordering_then (slice_cmp nat_cmp (text_of a.id) (text_of b.id))
+    (nat_cmp a.contract b.contract)) (slice_cmp nat_cmp a.venue b.venue)) (slice_cmp nat_cmp a.participant b.participant)) (side_ord.ghosts.cmp a.side b.side) = cc in
+    let f : r ≡ after_kind a b = e ∙ simp then_assoc in
+    f ∙ sym (kinds_agree a.kind b.kind (after_kind a b) d) ∙ kind_first a b
+
+kind_eq : (k l : Kind) → kind_same.ghosts.eq k l ≡ eqb (kind_place k) (kind_place l)
+kind_eq Order Order = refl
+kind_eq Order Trade = refl
+kind_eq Trade Order = refl
+kind_eq Trade Trade = refl
+
+side_eq : (s t : Side) → side_same.ghosts.eq s t ≡ eqb (side_place s) (side_place t)
+side_eq Buy Buy = refl
+side_eq Buy Sell = refl
+side_eq Sell Buy = refl
+side_eq Sell Sell = refl
+
+pub eq_is : (a b : Key) → key_equal.ghosts.eq a b ≡ alike a b
+unfolding alike same_key
+eq_is a b = λ i.
+    kind_eq a.kind b.kind i
+    && (bytes_eq (text_of a.id) (text_of b.id)
+    && (eqb a.contract b.contract
+    && (bytes_eq a.venue b.venue && (bytes_eq a.participant b.participant && side_eq a.side b.side i))))
 
 flip : (a b : Key) → rank a b ≡ ordering_reverse (rank b a)
-flip a b = as_parts a b ∙ (lists_total (lists_total nat_cmp_total)).antisymm (texts a) (texts b) ∙ ap ordering_reverse (sym (as_parts b a))
+flip a b = sym (cmp_is a b) ∙ total-law.antisymm a b ∙ ap ordering_reverse (cmp_is b a)
 
 less_trans : (a b c : Key) → rank a b ≡ Less → rank b c ≡ Less → rank a c ≡ Less
-less_trans a b c p q = as_parts a c ∙ (lists_total (lists_total nat_cmp_total)).trans (texts a) (texts b) (texts c) (sym (as_parts a b) ∙ p) (sym (as_parts b c) ∙ q)
+less_trans a b c p q = sym (cmp_is a c) ∙ total-law.trans a b c (cmp_is a b ∙ p) (cmp_is b c ∙ q)
 
 then_equal : (o p : Ordering) → ordering_then o p ≡ Equal → (o ≡ Equal) × (p ≡ Equal)
 then_equal Less p h = absurd (true≢false (ap is_lt h))
@@ -147,12 +231,12 @@ unfolding same_key
 parts_eq a b e =
     let h = six_parts (eqb (kind_place a.of_kind) (kind_place b.of_kind)) (bytes_eq a.of_id b.of_id) (eqb a.of_contract b.of_contract)
     (bytes_eq a.of_venue b.of_venue) (bytes_eq a.of_participant b.of_participant) (eqb (side_place a.of_side) (side_place b.of_side)) e in
-    let kind = kind_same a.of_kind b.of_kind (eqb-true (kind_place a.of_kind) (kind_place b.of_kind) h.0) in
+    let kind = kind_from a.of_kind b.of_kind (eqb-true (kind_place a.of_kind) (kind_place b.of_kind) h.0) in
     let id = bytes_same a.of_id b.of_id h.1 in
     let contract = eqb-true a.of_contract b.of_contract h.2 in
     let venue = bytes_same a.of_venue b.of_venue h.3 in
     let participant = bytes_same a.of_participant b.of_participant h.4 in
-    let side = side_same a.of_side b.of_side (eqb-true (side_place a.of_side) (side_place b.of_side) h.5) in
+    let side = side_from a.of_side b.of_side (eqb-true (side_place a.of_side) (side_place b.of_side) h.5) in
     λ i. record { of_kind = kind i; of_id = id i; of_contract = contract i; of_venue = venue i; of_participant = participant i; of_side = side i }
 
 bytes_self : (xs : List ℕ) → bytes_eq xs xs ≡ true
@@ -200,24 +284,3 @@ strict = record {
   same_is_alike = λ a b e. ap (alike a) (sym e) ∙ key_same a;
   parts_are_all = key_from;
 }
-
--- the steps of `compare`
-pub stops : (r o p : Ordering) → r ≡ o → (r ≡ Equal → ⊥) → r ≡ ordering_then o p
-stops r Less p e n = e
-stops r Equal p e n = absurd (n e)
-stops r Greater p e n = e
-
-pub passes : (r o p : Ordering) → Equal ≡ o → r ≡ p → r ≡ ordering_then o p
-passes r o p e h = h ∙ ap (λ x. ordering_then x p) e
-
-pub ends : (o : Ordering) → ordering_then o Equal ≡ o
-ends Less = refl
-ends Equal = refl
-ends Greater = refl
-
--- the steps of `same_parts`
-pub goes : (r a b : Bool) → true ≡ a → r ≡ b → r ≡ (a && b)
-goes r a b e h = h ∙ ap (λ x. x && b) e
-
-pub halts : (r a b : Bool) → r ≡ a → r ≡ false → r ≡ (a && b)
-halts r a b e h = h ∙ ap (λ x. x && b) (sym h ∙ e)

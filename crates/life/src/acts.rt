@@ -33,6 +33,18 @@ impl Life {
         })
     }
 
+    // The same time, quantity and price in a state. Written out: `..*self` does not go with a ghost field.
+    fn in_state(&self, state: State) -> Life
+        ensures { parts result ≡ record { in_state = state; at_time = self.now.time; with_quantity = self.now.quantity; with_price = self.now.price } }
+    {
+        Life {
+            state,
+            time: self.time,
+            quantity: self.quantity,
+            price: self.price,
+        }
+    }
+
     // What an action does to a standing life, as `told` by its line: time, quantity and price. The life changes in place; a
     // refused action changes nothing, and a life that ends is to be removed.
     pub fn act(&mut self, action: Action, told: &Life) -> Result<Outcome, LifeFault>
@@ -50,12 +62,7 @@ impl Life {
         }
         match action {
             Action::Modify => {
-                *self = Life {
-                    state: self.state,
-                    time: told.time,
-                    quantity: told.quantity,
-                    price: told.price,
-                };
+                *self = told.in_state(self.state);
                 Ok(Outcome::Stays)
             }
             Action::Cancel => {
@@ -73,12 +80,7 @@ pub fn first(action: Action, told: &Life) -> Result<Life, LifeFault>
     ensures { begun result ≡ begins told.now (fault_of action told.now None) }
 {
     match action {
-        Action::New => Ok(Life {
-            state: State::Open,
-            time: told.time,
-            quantity: told.quantity,
-            price: told.price,
-        }),
+        Action::New => Ok(told.in_state(State::Open)),
         Action::Modify => Err(LifeFault::NotOpen),
         Action::Cancel => Err(LifeFault::NoneToCancel),
         Action::Error => Err(LifeFault::NoneToStrike),

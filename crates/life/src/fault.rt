@@ -1,6 +1,6 @@
 // Why an action on a life, or a table, is refused.
 ghost use Rattle.std.specs.Prelude.{◌≡◌, Some, None};
-ghost use Rattle.life.specs.Faults.{life_number as number_of, life_field as field_of, life_code as code_of_lem, table_number as table_number_of};
+ghost use Rattle.life.specs.Faults.{life_number as number_of, life_field as field_of, life_code as published_code, table_number as table_number_of};
 
 use text::Kind;
 
@@ -47,7 +47,7 @@ impl LifeFault {
 
     // The Agency's code for an order or a trade, if it has one.
     pub fn code(&self, kind: Kind) -> Option<&'static [u8]>
-        ensures { elim result [ None ↦ code_of_lem kind self.now ≡ None | Some text ↦ code_of_lem kind self.now ≡ Some text.now ] }
+        ensures { elim result [ None ↦ published_code kind self.now ≡ None | Some text ↦ published_code kind self.now ≡ Some text.now ] }
     {
         match (*self, kind) {
             (LifeFault::CancelledBefore, Kind::Order) => Some(b"R2ODOICIMPIUQC"),

@@ -10,14 +10,11 @@ const PRIME: u64 = 1099511628211;
 pub fn hash_on(start: u64, bytes: &[u8]) -> u64
     ensures { result ≡ fnv start bytes.now }
 {
-    let mut word = start;
-    for b in bytes {
-        word = (word ^ *b as u64).wrapping_mul(PRIME);
-    }
-    word
+    bytes.iter().fold(start, |word, b| (word ^ u64::from(*b)).wrapping_mul(PRIME))
 }
 
 // The word of the bytes.
+#[tactic(auto, unfolding(crate::specs::Fnv::word_of))]
 pub fn hash(bytes: &[u8]) -> u64
     ensures { result ≡ word_of bytes.now }
 {

@@ -1,9 +1,9 @@
 -- `cmp` on slices of numbers answers `order`; equal texts are equal values.
-use Rattle.std.proofs.Common.{◌≡◌, ℕ, ◌+◌, ◌-◌, ◌<◌, ◌≤◌, Bool, false, List, [], ◌∷◌, ◌++◌, length, take, drop, set, replicate, sym, refl, ap, ◌∙◌, arith}
+use Rattle.std.proofs.Common.{◌≡◌, ℕ, ◌-◌, ◌≤◌, Bool, List, [], ◌∷◌, ◌++◌, length, take, drop, replicate, sym, refl, ap, ◌∙◌, arith}
 use mathlib.Core.HLevel.{is_prop→PathP, ×₃_prop}
 use native.Mathlib.Bridge.{le_prop}
 use base.Stored.{Coded-set, coded_ℕ, coded_list}
-use Rattle.std.proofs.lemmas.List.{take-append-drop, drop-set-lt, drop-replicate, length-take-le, drop-drop}
+use Rattle.std.proofs.lemmas.List.{take-append-drop, length-take-le}
 use Rattle.std.specs.Cmp.Lexicographic.{slice_cmp}
 use Rattle.std.specs.Ordering.{nat_cmp, ordering_then}
 use Rattle.std.specs.Str.{bytes_eq}
@@ -21,11 +21,6 @@ lex_order [] (y ∷ ys) = refl
 lex_order (x ∷ xs) [] = refl
 lex_order (x ∷ xs) (y ∷ ys) = λ i. ordering_then (number_cmp x y i) (lex_order xs ys i)
 
--- one byte written before the zeros
-pub zeros_more : (n : ℕ) (xs : List ℕ) (i x : ℕ) → i < length xs → drop i xs ≡ replicate (n - i) 0 → drop (i + 1) (set xs i x) ≡ replicate (n - i - 1) 0
-zeros_more n xs i x l h =
-    drop-set-lt (i + 1) xs i x (omega arith) ∙ sym (drop-drop 1 i xs) ∙ ap (drop 1) h ∙ drop-replicate 1 (n - i) 0
-
 -- equal texts are equal values
 pub text_same : {n : ℕ} (t u : Text n) → text_of t ≡ text_of u → t ≡ u
 text_same {n} t u e =
@@ -42,19 +37,9 @@ text_same {n} t u e =
           (λ j. ×₃_prop le_prop (Coded-set coded_ℕ _ _) (Coded-set (coded_list coded_ℕ) _ _)) t.ok u.ok i;
     }
 
--- texts of two lengths differ
-pub never_longer : (xs ys : List ℕ) → (length xs ≡ length ys → ⊥) → false ≡ bytes_eq xs ys
-never_longer xs ys n =
-    same_from_decides _ _ ((λ e. absurd (let z : ◌≡◌ {A = ℕ} 0 1 = cc in omega arith)), (λ e. absurd (n (ap length e)))) (bytes_eq-Decides xs ys)
-
 -- texts of one length are compared with the zeros after them
 pub same_with_zeros : {n : ℕ} (t u : Text n) (r : Bool) → t.len ≡ u.len → r ≡ bytes_eq t.bytes u.bytes → r ≡ bytes_eq (text_of t) (text_of u)
 same_with_zeros t u r l e =
     e ∙ same_from_decides _ _
     (Decides-like _ (λ p i. take (l i) (p i)) (λ q. ap (λ x. x.bytes) (text_same t u q)) (bytes_eq-Decides t.bytes u.bytes))
     (bytes_eq-Decides (text_of t) (text_of u))
-
-pub length_differs : {n : ℕ} (t u : Text n) → (t.len ≡ u.len → ⊥) → false ≡ bytes_eq (text_of t) (text_of u)
-length_differs t u d =
-    never_longer (text_of t) (text_of u)
-    (λ e. d (sym (length-take-le t.len t.bytes (omega arith)) ∙ e ∙ length-take-le u.len u.bytes (omega arith)))

@@ -1,13 +1,14 @@
 -- A decimal, cut at its dot.
-use Rattle.std.proofs.Common.{◌≡◌, ℕ, ◌+◌, ◌-◌, ◌*◌, ◌^◌, ◌<◌, ◌≤◌, Bool, true, false, cond, ◌&&◌, eqb, ltb, [], ◌∷◌, length, get_or, take, drop, pos, neg_ℤ, IfSome, Some, None, Option, sym, refl, ap, ◌∙◌, ⊎_elim, arith}
+use Rattle.std.proofs.Common.{◌≡◌, ℕ, ◌+◌, ◌-◌, ◌*◌, ◌^◌, ◌<◌, ◌≤◌, true, false, ◌&&◌, eqb, ltb, [], ◌∷◌, length, take, drop, IfSome, Some, None, Option, sym, refl, ap, ◌∙◌, ⊎_elim, arith}
 use Rattle.std.specs.Char.{is_ascii_digit}
+use Rattle.std.proofs.Math.Bool.{and-false}
 use Rattle.std.proofs.lemmas.List.{take_all, take_rest}
 use Rattle.std.proofs.lemmas.List.Sums.{prefix_len-le-length}
 use Rattle.std.proofs.lemmas.Bool.{cases_Bool}
 use Rattle.std.proofs.lemmas.Bool.Decides.{nat_tests}
 use Rattle.text.specs.Bytes.{Bytes, every, pieces, provided, then, between}
 use Rattle.text.specs.Cuts.{span_to, front_to, pace_to}
-use Rattle.text.specs.Forms.{digits_form, written, at_most, decimal_of, decimal_form, price_form}
+use Rattle.text.specs.Forms.{digits_form, written, at_most, decimal_of, decimal_form}
 use Rattle.text.proofs.Pieces.{first_after, after_at, within_cons}
 
 -- a text with a dot is not all digits
@@ -18,12 +19,8 @@ dotted (b ∷ bs) h =
     (λ (y : eqb b 46 ≡ true). let d : is_ascii_digit b ≡ false = grind (arith, nat_tests) in ap (λ t. t && every is_ascii_digit bs) d)
     (λ (n : eqb b 46 ≡ false).
     let e = dotted bs (sym (within_cons 46 b bs n) ∙ h) in
-    ap (λ t. is_ascii_digit b && t) e ∙ and_false (is_ascii_digit b))
+    ap (λ t. is_ascii_digit b && t) e ∙ and-false (is_ascii_digit b))
     (cases_Bool (eqb b 46))
-  where
-    and_false : (t : Bool) → t && false ≡ false
-    and_false true = refl
-    and_false false = refl
 
 alone : (s : Bytes) → ltb (span_to 46 s) (length s) ≡ false → pieces 46 s ≡ s ∷ []
 alone s n =
@@ -43,11 +40,7 @@ then_none None = refl
 then_none (Some v) = refl
 
 no_digits : (n : ℕ) (p : Bytes) → every is_ascii_digit p ≡ false → digits_form n p ≡ None
-no_digits n p e = ap (λ t. provided (between 1 n (length p) && t) (written 0 p)) e ∙ never (between 1 n (length p))
-  where
-    never : (t : Bool) → provided (t && false) (written 0 p) ≡ None
-    never true = refl
-    never false = refl
+no_digits n p e = ap (λ t. provided (between 1 n (length p) && t) (written 0 p)) e ∙ ap (λ t. provided t (written 0 p)) (and-false (between 1 n (length p)))
 
 -- what is left after the dot is one piece, or has a dot of its own and is no number
 two : (most : ℕ) (w p : Bytes) → decimal_of most (w ∷ pieces 46 p) ≡ in_two most w p
@@ -72,8 +65,8 @@ module _ (most limit : ℕ) (s : Bytes) where
 
 -- what the code finds, a step at a time: w bytes before the dot
 module _ (most limit w : ℕ) (s : Bytes) (e : w ≡ span_to 46 s) where
-  the_front : take (w - 0) s ≡ front_to 46 s
-  the_front = ap (λ n. take n s) (omega arith)
+  the_front : take w s ≡ front_to 46 s
+  the_front = ap (λ n. take n s) e
 
   the_rest : take (length s - (w + 1)) (drop (w + 1) s) ≡ drop (span_to 46 s + 1) s
   the_rest = take_rest s (w + 1) ∙ ap (λ n. drop n s) (omega arith)
@@ -81,7 +74,7 @@ module _ (most limit w : ℕ) (s : Bytes) (e : w ≡ span_to 46 s) where
   all_front : length s ≤ w → front_to 46 s ≡ s
   all_front h = grind (arith, nat_tests, take_all)
 
-  pub no_whole : None ≡ digits_form most (take (w - 0) s) → None ≡ decimal_form most limit s
+  pub no_whole : None ≡ digits_form most (take w s) → None ≡ decimal_form most limit s
   no_whole d =
       let f : digits_form most (front_to 46 s) ≡ None = ap (digits_form most) (sym the_front) ∙ sym d in
       ⊎_elim
@@ -92,12 +85,12 @@ module _ (most limit w : ℕ) (s : Bytes) (e : w ≡ span_to 46 s) where
       sym (whole_only most limit s l ∙ ap (λ o. then (then o (λ n. Some (n * 100_000))) (at_most (limit * 100_000))) (ap (digits_form most) (sym (all_front (omega arith))) ∙ f)))
       (cases_Bool (ltb (span_to 46 s) (length s)))
 
-  pub only_whole : (n : ℕ) → Some n ≡ digits_form most (take (w - 0) s) → w ≡ length s → at_most (limit * 100_000) (n * 100_000) ≡ decimal_form most limit s
+  pub only_whole : (n : ℕ) → Some n ≡ digits_form most (take w s) → w ≡ length s → at_most (limit * 100_000) (n * 100_000) ≡ decimal_form most limit s
   only_whole n d l =
       let f : digits_form most s ≡ Some n = ap (digits_form most) (sym (the_front ∙ all_front (omega arith))) ∙ sym d in
       sym (whole_only most limit s (omega arith) ∙ ap (λ o. then (then o (λ n. Some (n * 100_000))) (at_most (limit * 100_000))) f)
 
-  module _ (n : ℕ) (d : Some n ≡ digits_form most (take (w - 0) s)) (l : w < length s) where
+  module _ (n : ℕ) (d : Some n ≡ digits_form most (take w s)) (l : w < length s) where
     inside : decimal_form most limit s ≡ then (then (digits_form 5 (take (length s - (w + 1)) (drop (w + 1) s))) (λ m. Some (n * 100_000 + m * 10 ^ (5 - length (take (length s - (w + 1)) (drop (w + 1) s)))))) (at_most (limit * 100_000))
     inside =
         let f : digits_form most (front_to 46 s) ≡ Some n = ap (digits_form most) (sym the_front) ∙ sym d in
@@ -114,13 +107,3 @@ module _ (most limit w : ℕ) (s : Bytes) (e : w ≡ span_to 46 s) where
 pub at_most_small : (limit n : ℕ) (o : Option ℕ) → o ≡ at_most limit n → IfSome o (λ v. v ≤ limit)
 at_most_small limit n None e = tt
 at_most_small limit n (Some v) e = grind (arith, nat_tests)
-
--- ---- Prices
-
-pub price_minus : (s : Bytes) → 0 < length s → get_or s 0 0 ≡ 45 → price_form s ≡ then (decimal_form 7 1_000_000 (drop 1 s)) (λ n. Some (Some (neg_ℤ (pos n))))
-price_minus [] h e = absurd (omega arith)
-price_minus (b ∷ bs) h e = let t : eqb b 45 ≡ true = grind (arith, nat_tests) in ap (λ t. cond t (then (decimal_form 7 1_000_000 bs) (λ n. Some (Some (neg_ℤ (pos n))))) (then (decimal_form 7 1_000_000 (b ∷ bs)) (λ n. Some (Some (pos n))))) t
-
-pub price_plain : (s : Bytes) → 0 < length s → (get_or s 0 0 ≡ 45 → ⊥) → price_form s ≡ then (decimal_form 7 1_000_000 s) (λ n. Some (Some (pos n)))
-price_plain [] h e = absurd (omega arith)
-price_plain (b ∷ bs) h e = let t : eqb b 45 ≡ false = grind (arith, nat_tests) in ap (λ t. cond t (then (decimal_form 7 1_000_000 bs) (λ n. Some (Some (neg_ℤ (pos n))))) (then (decimal_form 7 1_000_000 (b ∷ bs)) (λ n. Some (Some (pos n))))) t

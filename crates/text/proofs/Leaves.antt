@@ -1,10 +1,9 @@
 -- One byte more of a word or of a numeral.
-use Rattle.std.proofs.Common.{◌≡◌, ℕ, ◌+◌, ◌-◌, ◌*◌, ◌^◌, ◌<◌, ◌≤◌, Bool, true, false, ◌&&◌, eqb, List, length, get_or, take, drop, ◌∙◌, pow-suc, add-one, arith}
+use Rattle.std.proofs.Common.{◌≡◌, ℕ, ◌+◌, ◌-◌, ◌*◌, ◌^◌, ◌<◌, ◌≤◌, Bool, true, false, List, length, get_or, drop, ◌∙◌, pow-suc, add-one, arith}
 use native.Mathlib.Nat.{pow-le-pow_right}
 use Rattle.std.proofs.lemmas.List.{at_drop_more, at_drop_all}
-use Rattle.std.specs.Char.{is_ascii_uppercase}
-use Rattle.text.specs.Bytes.{every, provided, capital_or_digit}
-use Rattle.text.specs.Forms.{written, code_form}
+use Rattle.text.specs.Bytes.{every}
+use Rattle.text.specs.Forms.{written}
 
 pub every_yes : (p : ℕ → Bool) (s : List ℕ) (i : ℕ) → i < length s → p (get_or s i 0) ≡ true → every p (drop i s) ≡ every p (drop (i + 1) s)
 every_yes p s i l d = at_drop_more (every p) s i 0 l ∙ rw d
@@ -26,7 +25,3 @@ power_more v b i l d = rw (add-one, pow-suc) (omega arith)
 
 pub power_ten : (v i : ℕ) → v < 10 ^ i → i ≤ 10 → v < 10000000000
 power_ten v i l d = omega (arith, pow-le-pow_right {n = 10} (omega arith) {i = i} {j = 10} d)
-
-pub code_by : (s : List ℕ) (a b c d : Bool) → eqb (length s) 12 ≡ a → every capital_or_digit (take 9 s) ≡ b → eqb (get_or s 9 0) 46 ≡ c → every is_ascii_uppercase (drop 10 s) ≡ d → code_form s ≡ provided (a && (b && (c && d))) s
-unfolding code_form
-code_by s a b c d p q r t = λ i. provided (p i && (q i && (r i && t i))) s

@@ -3,7 +3,7 @@ ghost use Rattle.std.specs.Prelude.{◌≡◌, ℕ, Bool};
 ghost use Rattle.std.specs.Char.{is_ascii_alphanumeric, is_ascii_digit, is_ascii_uppercase};
 ghost use Rattle.text.specs.Bytes.{every, id_byte, capital_or_digit};
 
-// A class of bytes.
+// A class of bytes. A trait, since each class states its definition once, where a closure would have every caller prove it.
 pub trait ByteClass {
     ghost member: { ℕ → Bool };
 
@@ -18,7 +18,7 @@ impl ByteClass for IdBytes {
     ghost member = { id_byte };
 
     fn has(b: u8) -> bool {
-        0x21 <= b && b <= 0x7e && b != b';' && b != b','
+        b.is_ascii_graphic() && !matches!(b, b';' | b',')
     }
 }
 
@@ -29,7 +29,7 @@ impl ByteClass for Capitals {
     ghost member = { is_ascii_uppercase };
 
     fn has(b: u8) -> bool {
-        b'A' <= b && b <= b'Z'
+        b.is_ascii_uppercase()
     }
 }
 
@@ -40,7 +40,7 @@ impl ByteClass for Digits {
     ghost member = { is_ascii_digit };
 
     fn has(b: u8) -> bool {
-        b'0' <= b && b <= b'9'
+        b.is_ascii_digit()
     }
 }
 
@@ -51,7 +51,7 @@ impl ByteClass for CapitalsOrDigits {
     ghost member = { capital_or_digit };
 
     fn has(b: u8) -> bool {
-        b.is_ascii_uppercase() || b.is_ascii_digit()
+        Capitals::has(b) || Digits::has(b)
     }
 }
 
@@ -70,9 +70,5 @@ impl ByteClass for LettersOrDigits {
 pub fn all_of<C: ByteClass>(text: &[u8]) -> bool
     ensures { result ≡ every C.ByteClass.member text.now }
 {
-    let mut good = true;
-    for b in text {
-        good = good & C::has(*b);
-    }
-    good
+    text.iter().fold(true, |good, b| good & C::has(*b))
 }

@@ -20,17 +20,12 @@ pub fn is_venue(text: &[u8]) -> bool
 }
 
 // An ACER code: nine capital letters or digits, a dot and two capital letters.
+#[tactic(auto, unfolding(crate::specs::Forms::code_form))]
 pub fn is_code(text: &[u8]) -> bool
     ensures { provided result text.now ≡ code_form text.now }
 {
-    if text.len() != 12 {
-        return false;
-    }
-    if !all_of::<CapitalsOrDigits>(&text[0..9]) {
-        return false;
-    }
-    if text[9] != b'.' {
-        return false;
-    }
-    all_of::<Capitals>(&text[10..])
+    text.len() == 12
+        && all_of::<CapitalsOrDigits>(&text[..9])
+        && text[9] == b'.'
+        && all_of::<Capitals>(&text[10..])
 }

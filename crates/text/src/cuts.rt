@@ -7,11 +7,9 @@ pub fn span_to(text: &[u8], separator: u8) -> usize
     ensures value { result ≡ span_to separator text.now }
     ensures within { result ≤ length text.now }
 {
-    let mut n = 0;
-    while n < text.len() && text[n] != separator {
-        n += 1;
-    }
-    n
+    text.iter()
+        .position(|b| *b == separator)
+        .unwrap_or(text.len())
 }
 
 // What is left after the first `n` bytes and the separator that follows them.

@@ -7,6 +7,7 @@ mod codes;
 mod cuts;
 mod names;
 mod numbers;
+mod order;
 mod texts;
 mod words;
 

@@ -1,7 +1,6 @@
 // Lists of names: 0 to 8 of them, separated by commas, each formed like an id.
-ghost use Rattle.std.specs.Prelude.{◌≡◌, ◌+◌, [], drop};
+ghost use Rattle.std.specs.Prelude.{◌≡◌, ◌+◌, [], length, drop, nat_le};
 ghost use Rattle.std.specs.Iterator.{YieldsFirstRef, item_count};
-ghost use Rattle.text.specs.Bytes.{pieces};
 ghost use Rattle.text.specs.Forms.{a_name, few_names, names_form};
 ghost use Rattle.text.specs.Listings.{listing, listing_in, first_name, first_in};
 
@@ -24,23 +23,18 @@ fn is_name(text: &[u8]) -> bool
     1 <= text.len() && text.len() <= LONGEST_NAME && all_of::<IdBytes>(text)
 }
 
-// At most eight names, each followed by a comma but the last.
-fn are_names(text: &[u8]) -> bool
-    ensures { result ≡ few_names 8 (pieces 44 text.now) }
+// At most eight names.
+fn are_few(mut names: Names) -> bool
+    ensures { result ≡ nat_le (length (listing names.entry)) 8 }
 {
-    let mut at = 0;
-    for i in 0..MOST_NAMES {
-        let rest = &text[at..];
-        let n = span_to(rest, b',');
-        if !is_name(&rest[0..n]) {
-            return false;
-        }
-        if n == rest.len() {
-            return true;
-        }
-        at += n + 1;
-    }
-    false
+    names.nth(MOST_NAMES).is_none()
+}
+
+// At most eight names, each formed like an id.
+fn are_names(mut names: Names) -> bool
+    ensures { result ≡ few_names 8 (listing names.entry) }
+{
+    are_few(names) && names.all(is_name)
 }
 
 impl<'a> Names<'a> {
@@ -58,7 +52,8 @@ impl<'a> Names<'a> {
         if text.is_empty() {
             return Some(Names::none());
         }
-        are_names(text).then_some(Names { listed: Some(text) })
+        let names = Names { listed: Some(text) };
+        are_names(names).then_some(names)
     }
 
     // The first name.

@@ -28,12 +28,7 @@ fn digits_of(text: &[u8], most: usize) -> Option<u64>
 pub fn time_of(text: &[u8]) -> Option<u32>
     ensures { result ≡ time_form text.now }
 {
-    let v = digits_of(text, 10)?;
-    if v <= 4294967295 {
-        Some(v as u32)
-    } else {
-        None
-    }
+    u32::try_from(digits_of(text, 10)?).ok()
 }
 
 // Ten to the power k.
@@ -42,40 +37,32 @@ fn power(k: usize) -> u64
     ensures value { result ≡ 10 ^ k }
     ensures small { result ≤ 100000 }
 {
-    match k {
-        0 => 1,
-        1 => 10,
-        2 => 100,
-        3 => 1000,
-        4 => 10000,
-        _ => 100000,
-    }
+    10u64.pow(k as u32)
 }
 
 // The value, if it is not above the limit.
 fn bounded(v: u64, limit: u64) -> Option<u64>
     ensures { result ≡ at_most limit v }
 {
-    if v <= limit { Some(v) } else { None }
+    (v <= limit).then_some(v)
 }
 
 // One to `most` digits, and after a dot one to five more, at most `limit`: the hundred-thousandths.
 fn decimal_of(text: &[u8], most: usize, limit: u64) -> Option<u64>
-    requires { (most ≤ 8) × (limit ≤ 10000000) }
+    requires digits { most ≤ 8 }
+    requires units { limit ≤ 10000000 }
     ensures value { result ≡ decimal_form most limit text.now }
     ensures small { IfSome result (λ v. v ≤ limit * 100000) }
 {
     let w = span_to(text, b'.');
-    let whole = digits_of(&text[0..w], most)?;
+    let whole = digits_of(&text[..w], most)?;
     if w == text.len() {
         return bounded(whole * 100000, limit * 100000);
     }
     let rest = &text[w + 1..];
     let part = digits_of(rest, 5)?;
-    bounded(
-        whole * 100000 + part * power(5 - rest.len()),
-        limit * 100000,
-    )
+    let scaled = part * power(5 - rest.len());
+    bounded(whole * 100000 + scaled, limit * 100000)
 }
 
 // A quantity in hundred-thousandths: a decimal of at most eight digits before the dot, at most ten million.
@@ -89,13 +76,9 @@ pub fn quantity_of(text: &[u8]) -> Option<u64>
 pub fn price_of(text: &[u8]) -> Option<Option<i64>>
     ensures { result ≡ price_form text.now }
 {
-    if text.len() == 0 {
-        return Some(None);
+    match text {
+        [] => Some(None),
+        [b'-', rest @ ..] => decimal_of(rest, 7, 1000000).map(|v| Some(-(v as i64))),
+        _ => decimal_of(text, 7, 1000000).map(|v| Some(v as i64)),
     }
-    if text[0] == b'-' {
-        let v = decimal_of(&text[1..], 7, 1000000)?;
-        return Some(Some(-(v as i64)));
-    }
-    let v = decimal_of(text, 7, 1000000)?;
-    Some(Some(v as i64))
 }

@@ -1,5 +1,6 @@
 // What a bounded text can do.
-ghost use Rattle.std.specs.Prelude.{◌≡◌, ℕ, ◌+◌, ◌<◌, ◌≤◌, ◌&&◌, [], length, nat_le};
+ghost use Rattle.std.specs.Prelude.{◌≡◌, ℕ, ◌+◌, ◌<◌, ◌≤◌, true, ◌&&◌, [], length, fold, ◌==◌, nat_le};
+ghost use Rattle.std.specs.List.{zip};
 ghost use Rattle.std.specs.Str.{bytes_eq};
 ghost use Rattle.text.specs.Bytes.{provided, among};
 ghost use Rattle.text.specs.Texts.{text_of, text_in, texts_of, order};
@@ -29,9 +30,7 @@ impl<const N: usize> Text<N> {
             return None;
         }
         let mut bytes = [0; N];
-        for i in 0..s.len() {
-            bytes[i] = s[i];
-        }
+        bytes[..s.len()].copy_from_slice(s);
         Some(Text {
             bytes,
             len: s.len() as u8,
@@ -42,22 +41,22 @@ impl<const N: usize> Text<N> {
     pub fn as_slice(&self) -> &[u8]
         ensures { result.now ≡ text_of self.now }
     {
-        let all = &self.bytes[..];
-        &all[0..self.len as usize]
+        &self.bytes[..self.len as usize]
     }
 
-    // Whether two texts are the same. The bytes past the lengths are zero, so all N are compared, with no way out early.
+    // Whether two texts are the same.
     pub fn same(&self, other: &Text<N>) -> bool
         ensures { result ≡ bytes_eq (text_of self.now) (text_of other.now) }
     {
-        self.len == other.len && same_bytes(&self.bytes, &other.bytes)
+        self == other
     }
 
     // Which of two texts comes first.
+    #[tactic(auto, using(crate::proofs::Compared::lex_order))]
     pub fn compare(&self, other: &Text<N>) -> Ordering
         ensures { result ≡ order (text_of self.now) (text_of other.now) }
     {
-        compare_bytes(self.as_slice(), other.as_slice())
+        self.cmp(other)
     }
 }
 
@@ -65,29 +64,29 @@ impl<const N: usize> Text<N> {
 pub fn same_bytes(a: &[u8], b: &[u8]) -> bool
     ensures { result ≡ bytes_eq a.now b.now }
 {
-    if a.len() != b.len() {
-        return false;
-    }
-    let mut good = true;
-    for i in 0..a.len() {
-        good = good & (a[i] == b[i]);
-    }
-    good
+    a.len() == b.len() && same_places(a, b)
+}
+
+// Whether the bytes at each place are the same, found with no way out early.
+fn same_places(a: &[u8], b: &[u8]) -> bool
+    ensures { result ≡ fold (λ good p. good && (p.0 == p.1)) true (zip a.now b.now) }
+{
+    a.iter().zip(b).fold(true, |good, (x, y)| good & (x == y))
 }
 
 // Whether a text stands in a list.
 pub fn is_among<const N: usize>(texts: &[Text<N>], text: &[u8]) -> bool
     ensures { result ≡ among (texts_of texts.now) text.now }
 {
-    for t in texts {
-        if same_bytes(text, t.as_slice()) {
-            return true;
-        }
-    }
-    false
+    texts.iter().any(
+        |t| -> bool
+            ensures { result ≡ bytes_eq text.entry.now (text_of t.now) }
+        { same_bytes(text, t.as_slice()) },
+    )
 }
 
 // Which of two texts comes first: by the first byte from the left that differs, and a text before what it begins.
+#[tactic(auto, using(crate::proofs::Compared::lex_order))]
 pub fn compare_bytes(a: &[u8], b: &[u8]) -> Ordering
     ensures { result ≡ order a.now b.now }
 {

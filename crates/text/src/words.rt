@@ -1,9 +1,10 @@
-// The words of a report line that stand for one of a few things.
+// The words of a report line that stand for one of a few things. Each is read by an `of` that answers Option: a TryFrom would need
+// an error type that says nothing.
 ghost use Rattle.std.specs.Prelude.{◌≡◌};
 ghost use Rattle.text.specs.Forms.{kind_form, side_form, action_form};
 
-// What a line reports: an order to trade, or a trade.
-#[derive(Clone, Copy, PartialEq, Eq, Debug)]
+// What a line reports: an order to trade, or a trade. Orders come first.
+#[derive(Clone, Copy, PartialEq, Eq, PartialOrd, Ord, Debug)]
 pub enum Kind {
     Order,
     Trade,
@@ -22,8 +23,8 @@ impl Kind {
     }
 }
 
-// Whether the participant buys or sells.
-#[derive(Clone, Copy, PartialEq, Eq, Debug)]
+// Whether the participant buys or sells. Buys come first.
+#[derive(Clone, Copy, PartialEq, Eq, PartialOrd, Ord, Debug)]
 pub enum Side {
     Buy,
     Sell,

@@ -1,28 +1,16 @@
-use Rattle.std.proofs.Common.{length, drop, sym, ap, ◌∙◌, arith, length-drop}
-use Rattle.std.proofs.lemmas.List.{take_rest}
-use Rattle.text.specs.Bytes.{pieces}
-use Rattle.text.specs.Forms.{few_names}
-use Rattle.text.proofs.NameLists.{stop_no, stop_last, go_on, names_over}
+use Rattle.std.proofs.Common.{◌≡◌, true, false, ◌&&◌, sym, ap, ◌∙◌, rules}
+use Rattle.std.proofs.lemmas.Iterator.{cases_from_all}
+use Rattle.std.proofs.lemmas.Iterator.Consumers.{YieldsList-from_first}
+use Rattle.text.specs.Bytes.{every}
+use Rattle.text.specs.Forms.{a_name}
+use Rattle.text.specs.Listings.{listing}
+use Rattle.text.proofs.Tests.{every_found}
 use Rattle.text.proofs.names.are_names.Goals as goal
 
-pub returns-then-not-is_name : goal.returns-then-not-is_name
-returns-then-not-is_name c = stop_no _ _ _ c.args.text.now c.loop-i.invariant.1 c.span_to-n.ensures.value _ c.is_name.ensures c.if-not-is_name.true
-
-pub returns-then-n-rest : goal.returns-then-n-rest
-returns-then-n-rest c =
-    let l = ap length (take_rest c.args.text.now c.loop-i.at) in
-    stop_last _ _ _ c.args.text.now c.loop-i.invariant.1 c.span_to-n.ensures.value _ c.is_name.ensures c.if-not-is_name.false (omega arith) (omega arith)
-
-pub loop-i-preserved : goal.loop-i-preserved
-loop-i-preserved c =
-    let l = ap length (take_rest c.args.text.now c.loop-i.at) in
-    let k = length-drop c.loop-i.at c.args.text.now in (
-      omega arith,
-      go_on _ _ _ c.args.text.now c.loop-i.invariant.1 c.span_to-n.ensures.value _ c.is_name.ensures c.if-not-is_name.false (omega arith) (omega arith),
-    )
-
-pub returns : goal.returns
-returns c =
-    sym (c.loop-i.invariant.1
-    ∙ ap (λ n. few_names n (pieces 44 (drop c.loop-i.at c.args.text.now))) (omega arith)
-    ∙ names_over (drop c.loop-i.at c.args.text.now))
+pub returns-then-are_few : goal.returns-then-are_few
+returns-then-are_few c =
+    let ns = listing c.args.names in
+    every_found a_name ns c.all.result
+    (cases_from_all c.all.new.self _ _ (λ t. a_name t ≡ true) (λ t. a_name t ≡ false) c.all.ensures.ran
+    (YieldsList-from_first (λ x. x.now) listing ns cc) (λ x q k. search rules) (λ x q k. search rules))
+    ∙ ap (λ b. b && every a_name ns) (sym c.if-are_few.true ∙ c.are_few.ensures)

@@ -1,19 +1,14 @@
-use Rattle.std.proofs.Common.{sym, ◌∙◌}
-use Rattle.std.proofs.lemmas.List.{at_drop_all}
-use Rattle.text.specs.Bytes.{among}
-use Rattle.text.specs.Texts.{texts_of}
-use Rattle.text.proofs.Amongs.{among_from}
+use Rattle.std.proofs.Common.{◌≡◌, true, false, rules, ◌∙◌}
+use Rattle.std.proofs.lemmas.Iterator.{YieldsList-from_slice, cases_from_any}
+use Rattle.std.specs.Str.{bytes_eq}
+use Rattle.text.specs.Texts.{text_of}
+use Rattle.text.proofs.Tests.{some_found, some_map}
 use Rattle.text.proofs.texts.is_among.Goals as goal
 
-pub returns-then-same_bytes : goal.returns-then-same_bytes
-returns-then-same_bytes g c =
-    sym (sym c.loop-t.invariant
-    ∙ among_from c.args.texts.now c.args.text.now _ _ _ _ c.loop-t-test.true c.t-item.is c.as_slice.ensures c.if-same_bytes.ensures)
-
-pub loop-t-preserved : goal.loop-t-preserved
-loop-t-preserved g c =
-    sym (among_from c.args.texts.now c.args.text.now _ _ _ _ c.loop-t-test.true c.t-item.is c.as_slice.ensures c.if-same_bytes.ensures)
-    ∙ c.loop-t.invariant
-
 pub returns : goal.returns
-returns g c = sym (sym c.loop-t.invariant ∙ at_drop_all (λ xs. among (texts_of xs) c.args.text.now) c.args.texts.now c.loop-t.t-index c.loop-t-test.false)
+returns g c =
+    let t = c.args.text.now in
+    some_found (λ x. bytes_eq t (text_of x)) c.args.texts.now c.any.result
+    (cases_from_any _ _ _ (λ x. bytes_eq t (text_of x) ≡ true) (λ x. bytes_eq t (text_of x) ≡ false) c.any.ensures.ran
+    (YieldsList-from_slice c.args.texts.now cc) (λ x q k. search rules) (λ x q k. search rules))
+    ∙ some_map (bytes_eq t) text_of c.args.texts.now

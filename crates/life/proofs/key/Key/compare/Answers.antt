@@ -1,50 +1,17 @@
-use Rattle.std.proofs.Common.{sym, ◌∙◌}
-use Rattle.life.specs.Keys.{key_order}
-use Rattle.life.proofs.KeyOrder.{stops, passes, ends, strict}
+use Rattle.std.proofs.Common.{rules}
+use Rattle.life.specs.Keys.{rank}
+use Rattle.life.proofs.KeyOrder.{by_kind, by_others, strict}
 use Rattle.life.proofs.key.Key.compare.Goals as goal
 
-pub returns-in_default : goal.returns-in_default
-unfolding key_order
-returns-in_default c = record {
-  is = stops _ _ _ c.compare_kinds-kind.ensures c.in_default.not-Equal;
-  strict = strict;
-}
+pub returns-then-ne : goal.returns-then-ne
+unfolding rank
+returns-then-ne c = record { is = by_kind c.args.self.now c.args.other.now c.cmp.result c.if-ne.ensures c.cmp.ensures; strict = strict }
 
-pub returns-in_default-id : goal.returns-in_default-id
-unfolding key_order
-returns-in_default-id c = record {
-  is = passes _ _ _ c.in-Equal.ensures (stops _ _ _ c.compare-id.ensures c.in_default-id.not-Equal);
-  strict = strict;
-}
+pub returns-clause-strict : goal.returns-clause-strict
+returns-clause-strict c = strict
 
-pub returns-in_default-contract : goal.returns-in_default-contract
-unfolding key_order
-returns-in_default-contract c = record {
-  is = passes _ _ _ c.in-Equal.ensures (passes _ _ _ c.in-Equal-id.ensures
-      (stops _ _ _ c.compare_numbers-contract.ensures c.in_default-contract.not-Equal));
-  strict = strict;
-}
-
-pub returns-in_default-venue : goal.returns-in_default-venue
-unfolding key_order
-returns-in_default-venue c = record {
-  is = passes _ _ _ c.in-Equal.ensures (passes _ _ _ c.in-Equal-id.ensures (passes _ _ _ c.in-Equal-contract.ensures
-      (stops _ _ _ c.compare_bytes-venue.ensures c.in_default-venue.not-Equal)));
-  strict = strict;
-}
-
-pub returns-in_default-participant : goal.returns-in_default-participant
-unfolding key_order
-returns-in_default-participant c = record {
-  is = passes _ _ _ c.in-Equal.ensures (passes _ _ _ c.in-Equal-id.ensures (passes _ _ _ c.in-Equal-contract.ensures
-      (passes _ _ _ c.in-Equal-venue.ensures (stops _ _ _ c.compare_bytes-participant.ensures c.in_default-participant.not-Equal))));
-  strict = strict;
-}
-
-pub returns : goal.returns
-unfolding key_order
-returns c = record {
-  is = passes _ _ _ c.in-Equal.ensures (passes _ _ _ c.in-Equal-id.ensures (passes _ _ _ c.in-Equal-contract.ensures
-      (passes _ _ _ c.in-Equal-venue.ensures (passes _ _ _ c.in-Equal-participant.ensures (c.compare_sides.ensures ∙ sym (ends _))))));
-  strict = strict;
-}
+pub returns-clause-is : goal.returns-clause-is
+unfolding rank
+returns-clause-is c =
+    by_others c.args.self.now c.args.other.now c.cmp-2.result c.then_with.result c.then_with-2.result c.then_with-3.result c.then_with-4.result
+    c.if-ne.ensures c.cmp-2.ensures (search rules) (search rules) (search rules) (search rules)

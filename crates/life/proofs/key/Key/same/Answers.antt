@@ -1,7 +1,12 @@
 use Rattle.std.proofs.Common.{◌∙◌, arith}
 use Rattle.std.proofs.lemmas.Bool.Decides.{nat_tests}
-use Rattle.life.proofs.KeyOrder.{other_word}
+use Rattle.life.specs.Keys.{alike}
+use Rattle.life.proofs.KeyOrder.{eq_is, other_word}
 use Rattle.life.proofs.key.Key.same.Goals as goal
+
+pub returns-then-self-other : goal.returns-then-self-other
+unfolding alike
+returns-then-self-other c = c.eq.ensures ∙ eq_is c.args.self.now c.args.other.now
 
 pub returns-else-self-other : goal.returns-else-self-other
 returns-else-self-other c =
