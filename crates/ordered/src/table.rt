@@ -5,7 +5,6 @@ ghost use Rattle.ordered.specs.Table.{room_of as room_in, pairs_of as pairs_in, 
 
 use crate::entry::Entry;
 use life::{Key, Life, NoRoom};
-use std::cmp::Ordering;
 
 // The most entries of a table.
 pub(crate) const LONGEST: usize = 65535;
@@ -15,44 +14,26 @@ pub(crate) fn seek(entries: &[Entry], count: usize, key: &Key) -> Result<usize, 
     requires { Sound entries.now count }
     ensures { Sought entries.now count key.now result }
 {
-    let mut low = 0;
-    let mut high = count;
-    while low < high {
-        let middle = low + (high - low) / 2;
-        match entries[middle].key.compare(key) {
-            Ordering::Less => low = middle + 1,
-            Ordering::Equal => return Ok(middle),
-            Ordering::Greater => high = middle,
-        }
-    }
-    Err(low)
+    entries[..count].binary_search_by(|entry| entry.key.compare(key))
 }
 
 // Moves the entries from `i` on up by one place, and writes the new one at `i`.
 pub(crate) fn insert(entries: &mut [Entry], count: usize, i: usize, entry: Entry)
-    requires { (i ≤ count) × (count < length entries.old) }
+    requires place { i ≤ count }
+    requires room { count < length entries.old }
     ensures { Inserted entries.old entries.new count i entry }
 {
-    let mut j = count;
-    while j > i {
-        let below = entries[j - 1];
-        entries[j] = below;
-        j -= 1;
-    }
+    entries.copy_within(i..count, i + 1);
     entries[i] = entry;
 }
 
 // Moves the entries past `i` down by one place.
 pub(crate) fn delete(entries: &mut [Entry], count: usize, i: usize)
-    requires { (i < count) × (count ≤ length entries.old) }
+    requires place { i < count }
+    requires within { count ≤ length entries.old }
     ensures { Deleted entries.old entries.new count i }
 {
-    let mut j = i;
-    while j + 1 < count {
-        let above = entries[j + 1];
-        entries[j] = above;
-        j += 1;
-    }
+    entries.copy_within(i + 1..count, i);
 }
 
 // A lent table, and how many of its entries are in use.
@@ -125,12 +106,9 @@ impl<'t> Table<'t> {
         ensures { Drops self.old.entries.now self.old.count self.new.entries.now self.new.count key.now }
     {
         let count = self.count;
-        match self.place_of(key) {
-            Ok(i) => {
-                delete(self.entries, count, i);
-                self.count = count - 1;
-            }
-            Err(_) => {}
+        if let Ok(i) = self.place_of(key) {
+            delete(self.entries, count, i);
+            self.count = count - 1;
         }
     }
 
