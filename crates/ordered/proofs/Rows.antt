@@ -1,24 +1,20 @@
 -- What stands where in a table, and what that says of the pairs.
-use Rattle.std.proofs.Common.{◌≡◌, ℕ, zero, suc, ◌+◌, ◌<◌, ◌≤◌, cond, true, leb, ◌⊎◌, List, ◌∷◌, length, get_or, set, Some, None, Option, Less, Equal, Greater, Ordering, Result, Ok, Err, take, sym, refl, ap, ◌∙◌, subst, inl, inr, ⊎_elim, true≢false, arith}
+use Rattle.std.proofs.Common.{◌≡◌, ℕ, zero, suc, ◌+◌, ◌<◌, ◌≤◌, cond, leb, ◌⊎◌, List, ◌∷◌, length, get_or, set, Some, None, Option, Less, Equal, Greater, sym, refl, ap, ◌∙◌, subst, inl, inr, ⊎_elim, true≢false, arith}
 use mathlib.Core.Logic.{∥∥₁_elim}
 use std.HLevel.{Π_prop}
 use native.Mathlib.Bridge.{le_prop}
 use base.Stored.{Coded-set, coded_bool}
 use Rattle.std.proofs.lemmas.List.{get_or-set_same, get_or-set_other, get_or_read, get_or_default}
 use Rattle.std.proofs.lemmas.Bool.{cases_order, cases_eq, cases_Bool, cond-true, cond-false, cond_both}
-use Rattle.std.specs.Ordering.{is_lt, ordering_index}
-use Rattle.std.specs.List.Sorted.{IsNonDecreasingBy, IsSearchInRange, IsBinarySearchResult}
-use Rattle.std.proofs.lemmas.List.Sorted.{IsNonDecreasingBy-from_default}
-use Rattle.std.proofs.lemmas.List.{length-take-le, get_or-take}
+use Rattle.std.specs.Ordering.{is_lt}
 use Rattle.life.specs.declared.key.Key.{Key}
 use Rattle.life.specs.declared.life.Life.{Life}
 use Rattle.life.specs.Keys.{alike, rank, Before}
-use Rattle.life.specs.Blank.{no_key, no_life}
 use Rattle.life.specs.Pairs.{look, erase, Unique, Same}
 use Rattle.life.proofs.KeyOrder.{strict, key_eq, key_same}
 use Rattle.life.proofs.Lookups.{look_erase, look_put, unique_from}
 use Rattle.ordered.specs.declared.entry.Entry.{Entry}
-use Rattle.ordered.specs.Table.{at, room_of, pairs_of, Sound, Held, Sought}
+use Rattle.ordered.specs.Table.{at, room_of, pairs_of, Sound, Held}
 
 sound_prop : {s : List Entry} {c : ℕ} → IsProp (Sound s c)
 sound_prop p q = λ i. record {
@@ -70,51 +66,29 @@ one_place s c h i j p q e =
 
 -- ---- the search
 
--- the comparisons with a key rise along the table, as a binary search asks
-none_below : (o : Ordering) → is_lt o ≡ true → ordering_index o ≡ 0
-none_below Less h = refl
-none_below Equal h = absurd (true≢false (sym h))
-none_below Greater h = absurd (true≢false (sym h))
+pub read_key : (s : List Entry) (c i : ℕ) (d : Entry) → Sound s c → i < c → (at s i).key ≡ (get_or s i d).key
+read_key s c i d h l =
+    let w : i < length s = omega (arith, room_within s, h.fits) in
+    ap (λ (e : Entry). e.key) (get_or_default s i _ d w)
 
-index_le : (o p : Ordering) → (p ≡ Less → is_lt o ≡ true) → (p ≡ Equal → is_lt o ≡ true) → ordering_index o ≤ ordering_index p
-index_le o Less f g = omega (arith, none_below o (f refl))
-index_le o Equal f g = omega (arith, none_below o (g refl))
-index_le Less Greater f g = omega arith
-index_le Equal Greater f g = omega arith
-index_le Greater Greater f g = omega arith
-
-ranks_rise : (s : List Entry) (c : ℕ) (k : Key) → Sound s c → (i j : ℕ) → i ≤ j → j < c → ordering_index (rank (at s i).key k) ≤ ordering_index (rank (at s j).key k)
-ranks_rise s c k h i j le l =
+pub lower : (s : List Entry) (c i : ℕ) (k : Key) (d : Entry) → Sound s c → i < c → Less ≡ rank (get_or s i d).key k → (m : ℕ) → m < i + 1 → Before (at s m).key k
+lower s c i k d h l e m w =
+    let here : Before (at s i).key k = ap is_lt (ap (λ x. rank x k) (read_key s c i d h l) ∙ sym e) in
     ⊎_elim
-    (λ e. omega (arith, ap (λ n. ordering_index (rank (at s n).key k)) e))
-    (λ n.
-    let below = h.rising i j (omega arith) l in
-    index_le _ _
-    (λ e. strict.onward _ _ k below (ap is_lt e))
-    (λ e. subst (Before (at s i).key) (strict.equal_is_same _ _ e) below))
-    (cases_eq i j)
+    (λ q. subst (λ n. Before (at s n).key k) (sym q) here)
+    (λ n. strict.onward (at s m).key (at s i).key k (h.rising m i (omega arith) l) here)
+    (cases_eq m i)
 
-taken : (s : List Entry) (c : ℕ) → Sound s c → length (take c s) ≡ c
-taken s c h = length-take-le c s (omega (arith, room_within s, h.fits))
+pub upper : (s : List Entry) (c i : ℕ) (k : Key) (d : Entry) → Sound s c → i < c → Greater ≡ rank (get_or s i d).key k → (m : ℕ) → i ≤ m → m < c → Before k (at s m).key
+upper s c i k d h l e m g w =
+    let here : Before k (at s i).key = strict.greater_is_after (at s i).key k (ap (λ x. rank x k) (read_key s c i d h l) ∙ sym e) in
+    ⊎_elim
+    (λ q. subst (λ n. Before k (at s n).key) (sym q) here)
+    (λ n. strict.onward k (at s i).key (at s m).key here (h.rising i m (omega arith) w))
+    (cases_eq m i)
 
-taken_rise : (s : List Entry) (c : ℕ) (k : Key) → Sound s c → IsNonDecreasingBy (λ (e : Entry). ordering_index (rank e.key k)) (take c s)
-taken_rise s c k h =
-    IsNonDecreasingBy-from_default (λ (e : Entry). ordering_index (rank e.key k)) (take c s) (record { key = no_key; life = no_life }) (λ i j le l.
-    let w : j < c = omega (arith, taken s c h) in
-    rw (get_or-take c s i (record { key = no_key; life = no_life }) (omega arith), get_or-take c s j (record { key = no_key; life = no_life }) w) (ranks_rise s c k h i j le w))
-
--- what a binary search of the entries in use finds
-pub searched : (s : List Entry) (c : ℕ) (k : Key) (r : Result ℕ ℕ) → Sound s c → IsSearchInRange r (length (take c s)) → IsBinarySearchResult (λ e. rank e.key k) (take c s) r → Sought s c k r
-searched s c k (Ok i) h bound found =
-    let within : i < c = omega (arith, taken s c h) in
-    (within, strict.equal_is_same _ _ (ap (λ (e : Entry). rank e.key k) (sym (get_or-take c s i _ within)) ∙ found _))
-searched s c k (Err i) h bound parted =
-    let rise = taken_rise s c k h in
-    let within : i ≤ c = omega (arith, taken s c h) in (
-      within,
-      (λ m l. ap is_lt (ap (λ (e : Entry). rank e.key k) (sym (get_or-take c s m _ (omega arith))) ∙ (parted rise).0 m _ (omega arith) l)),
-      (λ m g l. strict.greater_is_after _ _ (ap (λ (e : Entry). rank e.key k) (sym (get_or-take c s m _ l)) ∙ (parted rise).1 m _ g (omega (arith, taken s c h)))),
-    )
+pub hit : (s : List Entry) (c i : ℕ) (k : Key) (d : Entry) → Sound s c → i < c → Equal ≡ rank (get_or s i d).key k → (at s i).key ≡ k
+hit s c i k d h l e = strict.equal_is_same (at s i).key k (ap (λ x. rank x k) (read_key s c i d h l) ∙ sym e)
 
 -- ---- look-ups
 

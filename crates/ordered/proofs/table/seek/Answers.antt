@@ -1,13 +1,18 @@
-use Rattle.std.proofs.Common.{rules}
-use Rattle.std.proofs.lemmas.Fn.{always_returns_same}
+use Rattle.std.proofs.Common.{arith}
 use Rattle.life.specs.Keys.{rank}
-use Rattle.ordered.proofs.Rows.{searched}
+use Rattle.ordered.proofs.Rows.{lower, upper, hit}
 use Rattle.ordered.proofs.table.seek.Goals as goal
 
--- the closure ranks an entry's key
-pub returns : goal.returns
+pub loop-low-preserved-in-Less : goal.loop-low-preserved-in-Less
 unfolding rank
-returns c =
-    let facts = c.binary_search_by.ensures in
-    let by_rank = facts.position (λ e. rank e.key c.args.key.now) (always_returns_same _ _ _ (λ a r g called. search rules)) in
-    searched _ _ _ _ c.requires facts.bound by_rank
+loop-low-preserved-in-Less c =
+    (omega arith, omega arith, lower _ _ _ c.args.key.now _ c.requires (omega arith) c.in-Less.ensures.is, c.loop-low.invariant.3)
+
+pub returns-in-Equal : goal.returns-in-Equal
+unfolding rank
+returns-in-Equal c = (omega arith, hit _ _ _ c.args.key.now _ c.requires (omega arith) c.in-Equal.ensures.is)
+
+pub loop-low-preserved : goal.loop-low-preserved
+unfolding rank
+loop-low-preserved c =
+    (omega arith, omega arith, c.loop-low.invariant.2, upper _ _ _ c.args.key.now _ c.requires (omega arith) c.in-Greater.ensures.is)
