@@ -11,9 +11,6 @@ use life::{Key, Life, NoRoom, Store, TableFault};
 #[derive(Drop)]
 pub struct Ordered<'t> {
     table: Table<'t>,
-    ghost ok: { ∥ Sound table.entries.now table.count ∥₁ },
-    ghost apart: { distinct (pairs_in table.entries.now table.count) ≡ true },
-    ghost fits: { length (pairs_in table.entries.now table.count) ≤ room_in table.entries.now },
 }
 
 impl<'t> Ordered<'t> {
@@ -32,9 +29,9 @@ impl<'t> Ordered<'t> {
         ensures none { pairs_in result.table.entries.now result.table.count ≡ [] }
         ensures same { result.table.entries.now ≡ entries.old }
     {
-        let mut table = Table { entries, count: 0 };
-        table.empty();
-        Ordered { table }
+        Ordered {
+            table: Table::new(entries),
+        }
     }
 }
 
@@ -43,9 +40,9 @@ impl<'t> Store for Ordered<'t> {
 
     ghost room = { λ s. room_in s.table.entries.now };
 
-    ghost unique = { λ s. s.apart };
+    ghost unique = { λ s. s.table.apart };
 
-    ghost within = { λ s. s.fits };
+    ghost within = { λ s. s.table.fits };
 
     fn capacity(&self) -> usize {
         self.table.room()

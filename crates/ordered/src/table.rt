@@ -1,7 +1,7 @@
 // A table of entries in rising order of their keys.
-ghost use Rattle.std.specs.Prelude.{◌≡◌, ℕ, ◌+◌, ◌-◌, ◌<◌, ◌≤◌, length, nat_le};
-ghost use Rattle.life.specs.Pairs.{look};
-ghost use Rattle.ordered.specs.Table.{room_of as room_in, pairs_of as pairs_in, Sound, Held, Sought, Inserted, Deleted, Puts, Drops};
+ghost use Rattle.std.specs.Prelude.{◌≡◌, ℕ, ◌+◌, ◌-◌, ◌<◌, ◌≤◌, true, length, nat_le};
+ghost use Rattle.life.specs.Pairs.{look, distinct};
+ghost use Rattle.ordered.specs.Table.{room_of as room_in, pairs_of as pairs_in, Sound, Sought, Inserted, Deleted, Puts, Drops};
 
 use crate::entry::Entry;
 use life::{Key, Life, NoRoom};
@@ -48,14 +48,25 @@ pub(crate) fn delete(entries: &mut [Entry], count: usize, i: usize)
     entries.copy_within(i + 1..count, i);
 }
 
-// A lent table, and how many of its entries are in use.
+// A lent table, and how many of its entries are in use, in the order of their keys.
 #[derive(Drop)]
 pub(crate) struct Table<'t> {
     pub(crate) entries: &'t mut [Entry],
     pub(crate) count: usize,
+    ghost ok: { ∥ Sound entries.now count ∥₁ },
+    ghost apart: { distinct (pairs_in entries.now count) ≡ true },
+    ghost fits: { length (pairs_in entries.now count) ≤ room_in entries.now },
 }
 
 impl<'t> Table<'t> {
+    // No entry is in use yet.
+    pub(crate) fn new(entries: &'t mut [Entry]) -> Table<'t>
+        ensures count { result.count ≡ 0 }
+        ensures same { result.entries.now ≡ entries.old }
+    {
+        Table { entries, count: 0 }
+    }
+
     // How many entries it can hold: none where its length is not allowed.
     pub(crate) fn room(&self) -> usize
         ensures { result ≡ room_in self.now.entries.now }
@@ -66,7 +77,6 @@ impl<'t> Table<'t> {
 
     // Where the key stands, or else where it belongs.
     fn place_of(&self, key: &Key) -> Result<usize, usize>
-        requires { ∥ Sound self.now.entries.now self.now.count ∥₁ }
         ensures { Sought self.now.entries.now self.now.count key.now result }
     {
         seek(self.entries, self.count, key)
@@ -81,7 +91,6 @@ impl<'t> Table<'t> {
 
     // The life at the key, if one is held.
     pub(crate) fn find(&self, key: &Key) -> Option<Life>
-        requires { ∥ Sound self.now.entries.now self.now.count ∥₁ }
         ensures { result ≡ look key.now (pairs_in self.now.entries.now self.now.count) }
     {
         match self.place_of(key) {
@@ -92,7 +101,6 @@ impl<'t> Table<'t> {
 
     // Puts the life at the key. Refused where the key is new and the table is full.
     pub(crate) fn put(&mut self, key: &Key, life: Life) -> Result<(), NoRoom>
-        requires { ∥ Sound self.old.entries.now self.old.count ∥₁ }
         ensures { Puts self.old.entries.now self.old.count self.new.entries.now self.new.count key.now life result }
     {
         let count = self.count;
@@ -114,7 +122,6 @@ impl<'t> Table<'t> {
 
     // Takes away the entry of the key, if there is one.
     pub(crate) fn remove(&mut self, key: &Key)
-        requires { ∥ Sound self.old.entries.now self.old.count ∥₁ }
         ensures { Drops self.old.entries.now self.old.count self.new.entries.now self.new.count key.now }
     {
         let count = self.count;
@@ -127,7 +134,6 @@ impl<'t> Table<'t> {
     // Takes every entry away.
     pub(crate) fn empty(&mut self)
         ensures count { self.new.count ≡ 0 }
-        ensures held { Held self.new.entries.now self.new.count }
         ensures same { self.new.entries.now ≡ self.old.entries.now }
     {
         self.count = 0;
