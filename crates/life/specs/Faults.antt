@@ -1,6 +1,6 @@
 -- The published numbers, fields and codes of refusals.
-use Rattle.std.specs.Prelude.{ℕ, Some, None, Ok, Err, codes, Option, Result}
-use Rattle.text.specs.Bytes.{Bytes}
+use Rattle.std.specs.Prelude.{ℕ, Bool, Some, None, Ok, Err, codes, Option, Result}
+use Rattle.text.specs.Bytes.{Bytes, between}
 use Rattle.text.specs.declared.words.Kind.{Kind}
 use Rattle.text.specs.declared.words.Kind.TheVariants.{Order, Trade}
 use Rattle.life.specs.declared.fault.LifeFault.{LifeFault}
@@ -39,6 +39,10 @@ life_code k Earlier = None
 
 abbrev pub table_number : TableFault → ℕ
 table_number Length = 72
+
+-- a table has from 1 place to `most`
+abbrev pub allowed_length : ℕ → ℕ → Bool
+allowed_length most n = between 1 most n
 
 -- the number of the refusal, if there is one
 abbrev pub length_refused : Result (Unit {0}) TableFault → Option ℕ

@@ -8,6 +8,7 @@ mod key;
 mod keys;
 mod life;
 mod store;
+mod table_length;
 
 pub use acts::{Outcome, first};
 pub use fault::{LifeFault, TableFault};
@@ -15,3 +16,4 @@ pub use fnv::{hash, hash_on};
 pub use key::Key;
 pub use life::{Life, State};
 pub use store::{NoRoom, Store};
+pub use table_length::check_length;
