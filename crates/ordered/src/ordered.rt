@@ -6,7 +6,7 @@ ghost use Rattle.ordered.specs.Table.{allowed, room_of as room_in, pairs_of as p
 
 use crate::entry::Entry;
 use crate::table::{LONGEST, Table};
-use life::{Key, Life, NoRoom, Store, TableFault};
+use life::{Key, Life, NoRoom, Store, TableFault, check_length};
 
 #[derive(Drop)]
 pub struct Ordered<'t> {
@@ -18,10 +18,7 @@ impl<'t> Ordered<'t> {
     pub fn check(n: usize) -> Result<(), TableFault>
         ensures { refused result ≡ (if allowed n then None else Some 72) }
     {
-        if n < 1 || n > LONGEST {
-            return Err(TableFault::Length);
-        }
-        Ok(())
+        check_length::<LONGEST>(n)
     }
 
     // An empty store over the table, whatever it held. It writes nothing yet; a table whose length is not allowed has no room.

@@ -10,25 +10,6 @@ use std::cmp::Ordering;
 // The most entries of a table.
 pub(crate) const LONGEST: usize = 65535;
 
-// Where the key stands among the first `count` entries, or else where it belongs.
-pub(crate) fn seek(entries: &[Entry], count: usize, key: &Key) -> Result<usize, usize>
-    requires { Sound entries.now count }
-    ensures { Sought entries.now count key.now result }
-{
-    // Written out: it stops at an equal key. The slice's `binary_search_by` goes on, and a find among 4,000 took 211 ns, here 158.
-    let mut low = 0;
-    let mut high = count;
-    while low < high {
-        let middle = low + (high - low) / 2;
-        match entries[middle].key.compare(key) {
-            Ordering::Less => low = middle + 1,
-            Ordering::Equal => return Ok(middle),
-            Ordering::Greater => high = middle,
-        }
-    }
-    Err(low)
-}
-
 // Moves the entries from `i` on up by one place, and writes the new one at `i`.
 pub(crate) fn insert(entries: &mut [Entry], count: usize, i: usize, entry: Entry)
     requires place { i ≤ count }
@@ -79,7 +60,19 @@ impl<'t> Table<'t> {
     fn place_of(&self, key: &Key) -> Result<usize, usize>
         ensures { Sought self.now.entries.now self.now.count key.now result }
     {
-        seek(self.entries, self.count, key)
+        // Written out: it stops at an equal key. The slice's `binary_search_by` goes on, and a find among 4,000 took 211 ns, here 158.
+        let entries = &*self.entries;
+        let mut low = 0;
+        let mut high = self.count;
+        while low < high {
+            let middle = low + (high - low) / 2;
+            match entries[middle].key.compare(key) {
+                Ordering::Less => low = middle + 1,
+                Ordering::Equal => return Ok(middle),
+                Ordering::Greater => high = middle,
+            }
+        }
+        Err(low)
     }
 
     // Whether no entry is free.
@@ -103,7 +96,6 @@ impl<'t> Table<'t> {
     pub(crate) fn put(&mut self, key: &Key, life: Life) -> Result<(), NoRoom>
         ensures { Puts self.old.entries.now self.old.count self.new.entries.now self.new.count key.now life result }
     {
-        let count = self.count;
         match self.place_of(key) {
             Ok(i) => {
                 self.entries[i] = Entry { key: *key, life };
@@ -113,8 +105,8 @@ impl<'t> Table<'t> {
                 if self.is_full() {
                     return Err(NoRoom);
                 }
-                insert(self.entries, count, i, Entry { key: *key, life });
-                self.count = count + 1;
+                insert(self.entries, self.count, i, Entry { key: *key, life });
+                self.count += 1;
                 Ok(())
             }
         }
@@ -124,10 +116,9 @@ impl<'t> Table<'t> {
     pub(crate) fn remove(&mut self, key: &Key)
         ensures { Drops self.old.entries.now self.old.count self.new.entries.now self.new.count key.now }
     {
-        let count = self.count;
         if let Ok(i) = self.place_of(key) {
-            delete(self.entries, count, i);
-            self.count = count - 1;
+            delete(self.entries, self.count, i);
+            self.count -= 1;
         }
     }
 
