@@ -1,17 +1,19 @@
 -- What the table's invariant says of the pairs: lemmas for the ghost members of a store.
-use Rattle.std.proofs.Common.{◌≡◌, ℕ, zero, suc, ◌-◌, ◌<◌, ◌≤◌, true, cond, leb, List, [], length, None, sym, refl, ap, ◌∙◌, subst, ⊎_elim, arith}
+use Rattle.std.proofs.Common.{◌≡◌, ℕ, zero, suc, ◌-◌, ◌<◌, ◌≤◌, true, Bool, cond, leb, List, [], length, get_or, None, sym, refl, ap, ◌∙◌, subst, ⊎_elim, arith}
 use mathlib.Core.Logic.{∥∥₁_elim}
 use std.HLevel.{Π_prop, ⊥_prop}
 use native.Mathlib.Bridge.{le_prop}
 use base.Stored.{Coded-set, coded_ℕ}
+use Rattle.std.proofs.lemmas.List.{get_or_default}
 use Rattle.std.proofs.lemmas.Bool.{cases_Bool, cases_lt, le-leb, lt-leb, cond-true, cond-false}
 use Rattle.life.specs.declared.key.Key.{Key}
 use Rattle.chained.specs.declared.slot.Slot.{Slot}
-use Rattle.life.specs.Keys.{alike as same}
+use Rattle.life.specs.Parts.{key_parts}
+use Rattle.life.specs.Keys.{alike as same, same_key}
 use Rattle.life.specs.Pairs.{look as lookup, Unique}
 use Rattle.life.proofs.KeyOrder.{key_eq, key_same}
 use Rattle.life.proofs.Lookups.{unique_from}
-use Rattle.chained.specs.Table.{at, pairs_of, room_of, Prev, Linked, Sound, Whole, Held, Emptied}
+use Rattle.chained.specs.Table.{none, at, pairs_of, room_of, Prev, Linked, Sound, Whole, Held, Emptied}
 
 -- the invariant holds in one way, so it comes out of the ghost field
 prev_prop : {K : ℕ → ℕ} {b top r : ℕ} → IsProp (Prev K b top r)
@@ -43,6 +45,14 @@ whole_prop p q = λ i. record {
 
 pub opened : {s : List Slot} {c : ℕ} → ∥ Whole s c ∥₁ → Whole s c
 opened h = ∥∥₁_elim h whole_prop (λ x. x)
+
+-- what a read and a comparison tell of a slot
+pub life_read : (s : List Slot) (i : ℕ) (x : Slot) → i < length s → (get_or s i x).life ≡ (at s i).life
+life_read s i x l = ap (λ (y : Slot). y.life) (get_or_default s i x none l)
+
+pub key_read : (s : List Slot) (i : ℕ) (x : Slot) (k : Key) (b : Bool) → i < length s → b ≡ same_key (key_parts (get_or s i x).key) (key_parts k) → same (at s i).key k ≡ b
+unfolding same
+key_read s i x k b l e = ap (λ (y : Slot). same y.key k) (get_or_default s i none x l) ∙ sym e
 
 pub same_true : (k q : Key) → same k q ≡ true → k ≡ q
 same_true k q e = key_eq k q e

@@ -20,8 +20,11 @@ link_in-requires c =
     record {
       chains = (_, k3 _ _ _ _ _ _ c.requires.sound c.requires.low less c.unlink.ensures.kept (c.chain-d.ensures.is ∙ ap (λ k. chain_of k (length c.args.slots.now)) c.key_of-key.ensures) k c.unlink-2.ensures.kept c.unlink-2.ensures.linked _ (paired_to c.set_pair.ensures c.key_of-key.ensures c.life_of-life.ensures));
       fits = search rules;
-      chain = search rules;
-      slot = search rules;
+      small = search rules;
+      low = search rules;
+      high = search rules;
+      some = search rules;
+      within = search rules;
     }
 
 pub returns : goal.returns

@@ -7,10 +7,10 @@ use Rattle.chained.proofs.table.wipe.Goals as goal
 
 pub returns : goal.returns
 returns c =
-    let t = c.loop-i.slots in
-    let inv = c.loop-i.invariant in
+    let t = c.loop-slot.slots in
+    let inv = c.loop-slot.invariant in
     record {
-      size = c.loop-i.auto.slots;
+      size = c.loop-slot.auto.slots;
       heads = λ m. ⊎_elim
           (λ l. inv.0 m (omega arith))
           (λ l. ap (λ (x : Slot). x.head) (get_or_past t m none l))

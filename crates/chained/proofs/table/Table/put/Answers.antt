@@ -8,18 +8,19 @@ use Rattle.chained.proofs.Chains.{lookup_some}
 use Rattle.chained.proofs.Moves.{held_sound, held_becomes}
 use Rattle.chained.proofs.table.Table.put.Goals as goal
 
-pub set_pair-requires : goal.set_pair-requires
-set_pair-requires c =
-    let o = c.place_of-i.ensures in
-    let t = c.if-i-gt0.true in
-    let h = sound_in _ _ (opened c.requires) (omega (arith, o.within)) in
-    omega (arith, h.fits, o.within)
+pub invariant_of-self : goal.invariant_of-self
+invariant_of-self c =
+    let t = c.in-Some.ensures.0 in
+    let o = c.in-Some.ensures.1 in
+    let h = sound_in _ _ (opened c.args.self.now.ok) (omega (arith, t, o.within)) in
+    let then = held (whole _ _ (held_sound _ _ _ _ _ _ h t o.within (o.held t) c.set_pair.ensures)) in
+    record { ok = then.in_chains; apart = then.apart; fits = then.within }
 
-pub returns-then-i-gt0 : goal.returns-then-i-gt0
-returns-then-i-gt0 c =
-    let o = c.place_of-i.ensures in
-    let t = c.if-i-gt0.true in
-    let h = sound_in _ _ (opened c.requires) (omega (arith, o.within)) in
+pub returns-in-Some : goal.returns-in-Some
+returns-in-Some c =
+    let t = c.in-Some.ensures.0 in
+    let o = c.in-Some.ensures.1 in
+    let h = sound_in _ _ (opened c.args.self.now.ok) (omega (arith, t, o.within)) in
     record {
       held = held (whole _ _ (held_sound _ _ _ _ _ _ h t o.within (o.held t) c.set_pair.ensures));
       room = room_to _ _ c.set_pair.ensures.size;
@@ -37,14 +38,13 @@ returns-then-i-gt0 c =
 
 pub returns-then-is_full : goal.returns-then-is_full
 returns-then-is_full c =
-    let o = c.place_of-i.ensures in
     let s = c.args.self.now.slots.now in
     let n = c.args.self.now.count in
     let full : room_of s ≤ n = leb-true (room_of s) n (sym c.if-is_full.ensures) in
     record {
-      held = held (opened c.requires);
+      held = held (opened c.args.self.now.ok);
       room = refl;
-      fits = sym (or_from _ _ (ap is_some (lookup_none _ _ _ (o.missed (omega arith)))) (le-ltb (length (pairs_of s n)) (room_of s) (omega (arith, pairs_length s n))));
+      fits = sym (or_from _ _ (ap is_some (lookup_none _ _ _ (c.in_default.ensures.missed refl))) (le-ltb (length (pairs_of s n)) (room_of s) (omega (arith, pairs_length s n))));
       holds = λ q. refl;
       leaves = record { size = refl; spare = record { keys = λ m _. refl; lives = λ m _. refl }; unwritten = λ _. (refl, refl) };
     }
@@ -54,8 +54,13 @@ add-requires c =
     let s = c.args.self.now.slots.now in
     let n = c.args.self.now.count in
     let free : n < room_of s = leb-false (room_of s) n (sym c.if-is_full.ensures) in
-    let h : Sound s n = sound_with s n (opened c.requires) free in
-    record { sound = h; room = omega (arith, room_small s h.small); fresh = c.place_of-i.ensures.missed (omega arith) }
+    let h : Sound s n = sound_with s n (opened c.args.self.now.ok) free in
+    record { sound = h; room = omega (arith, room_small s h.small); fresh = c.in_default.ensures.missed refl }
+
+pub invariant_of-self-2 : goal.invariant_of-self-2
+invariant_of-self-2 c =
+    let then = held (whole _ _ c.add.ensures.sound) in
+    record { ok = then.in_chains; apart = then.apart; fits = then.within }
 
 pub returns : goal.returns
 returns c =
