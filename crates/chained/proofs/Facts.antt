@@ -46,13 +46,14 @@ whole_prop p q = λ i. record {
 pub opened : {s : List Slot} {c : ℕ} → ∥ Whole s c ∥₁ → Whole s c
 opened h = ∥∥₁_elim h whole_prop (λ x. x)
 
--- what a read and a comparison tell of a slot
-pub life_read : (s : List Slot) (i : ℕ) (x : Slot) → i < length s → (get_or s i x).life ≡ (at s i).life
-life_read s i x l = ap (λ (y : Slot). y.life) (get_or_default s i x none l)
+-- what a read gives
+pub at_read : (s : List Slot) (i : ℕ) (x : Slot) → i < length s → get_or s i x ≡ at s i
+at_read s i x l = get_or_default s i x none l
 
-pub key_read : (s : List Slot) (i : ℕ) (x : Slot) (k : Key) (b : Bool) → i < length s → b ≡ same_key (key_parts (get_or s i x).key) (key_parts k) → same (at s i).key k ≡ b
+-- what a comparison tells of a slot
+pub told : (s : List Slot) (i : ℕ) (x : Slot) (k : Key) (b : Bool) → x ≡ at s i → b ≡ same_key (key_parts x.key) (key_parts k) → same (at s i).key k ≡ b
 unfolding same
-key_read s i x k b l e = ap (λ (y : Slot). same y.key k) (get_or_default s i none x l) ∙ sym e
+told s i x k b r e = ap (λ (y : Slot). same y.key k) (sym r) ∙ sym e
 
 pub same_true : (k q : Key) → same k q ≡ true → k ≡ q
 same_true k q e = key_eq k q e

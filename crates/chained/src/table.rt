@@ -20,34 +20,6 @@ fn chain(key: &Key, n: usize) -> usize
     1 + key.word as usize % (n - 1)
 }
 
-fn head_of(slots: &[Slot], i: usize) -> usize
-    requires { i < length slots.now }
-    ensures { result ≡ (at slots.now i).head }
-{
-    slots[i].head as usize
-}
-
-fn next_of(slots: &[Slot], i: usize) -> usize
-    requires { i < length slots.now }
-    ensures { result ≡ (at slots.now i).next }
-{
-    slots[i].next as usize
-}
-
-fn key_of(slots: &[Slot], i: usize) -> Key
-    requires { i < length slots.now }
-    ensures { result ≡ (at slots.now i).key }
-{
-    slots[i].key
-}
-
-fn life_of(slots: &[Slot], i: usize) -> Life
-    requires { i < length slots.now }
-    ensures { result ≡ (at slots.now i).life }
-{
-    slots[i].life
-}
-
 // Sets the link at `p`, or the head of the chain `b` where `p` is 0.
 fn set_link(slots: &mut [Slot], b: usize, p: usize, v: usize)
     requires chain { b < length slots.old }
@@ -83,8 +55,8 @@ fn add(slots: &mut [Slot], count: usize, key: &Key, life: Life)
 {
     let b = chain(key, slots.len());
     let t = count + 1;
-    let old = head_of(slots, b);
-    set_link(slots, b, t, old);
+    let first = slots[b].head as usize;
+    set_link(slots, b, t, first);
     set_pair(slots, t, *key, life);
     set_link(slots, b, 0, t);
 }
@@ -98,10 +70,10 @@ fn place(slots: &[Slot], count: usize, b: usize, i: usize) -> usize
     ensures { Place slots.now count b i result }
 {
     let mut p = 0;
-    let mut j = head_of(slots, b);
+    let mut j = slots[b].head as usize;
     while j > i {
         p = j;
-        j = next_of(slots, j);
+        j = slots[j].next as usize;
     }
     p
 }
@@ -119,7 +91,7 @@ fn unlink(slots: &mut [Slot], count: usize, b: usize, i: usize)
     ensures kept { Kept slots.old slots.new }
     ensures linked { (K : ℕ → ℕ) → Linked K slots.old count → K i ≡ b → Linked (re K i 0) slots.new count }
 {
-    let after = next_of(slots, i);
+    let after = slots[i].next as usize;
     let p = place(slots, count, b, i);
     set_link(slots, b, p, after);
 }
@@ -166,17 +138,15 @@ fn take_out(slots: &mut [Slot], count: usize, i: usize)
     ensures gone { Becomes (pairs_of slots.old count) (pairs_of slots.new (count - 1)) (at slots.old i).key None }
 {
     let n = slots.len();
-    let gone = key_of(slots, i);
-    let b = chain(&gone, n);
+    let b = chain(&slots[i].key, n);
     unlink(slots, count, b, i);
     if i == count {
         return;
     }
-    let key = key_of(slots, count);
-    let life = life_of(slots, count);
-    let d = chain(&key, n);
+    let last = slots[count];
+    let d = chain(&last.key, n);
     unlink(slots, count, d, count);
-    set_pair(slots, i, key, life);
+    set_pair(slots, i, last.key, last.life);
     link_in(slots, count, d, i);
 }
 
@@ -236,12 +206,13 @@ impl<'t> Table<'t> {
         if n < 2 || n > MOST {
             return None;
         }
-        let mut j = head_of(slots, chain(key, n));
+        let mut j = slots[chain(key, n)].head as usize;
         while j > 0 {
-            if slots[j].key.same(key) {
+            let slot = &slots[j];
+            if slot.key.same(key) {
                 return Some(j);
             }
-            j = next_of(slots, j);
+            j = slot.next as usize;
         }
         None
     }
