@@ -13,7 +13,7 @@ use Rattle.life.specs.Keys.{alike as same, same_key}
 use Rattle.life.specs.Pairs.{look as lookup, Unique}
 use Rattle.life.proofs.KeyOrder.{key_eq, key_same}
 use Rattle.life.proofs.Lookups.{unique_from}
-use Rattle.chained.specs.Table.{none, at, pairs_of, room_of, Prev, Linked, Sound, Whole, Held, Emptied}
+use Rattle.chained.specs.Table.{none, at, pairs_of, room_of, Prev, Linked, Sound, Sought, Whole, Held, Emptied}
 
 -- the invariant holds in one way, so it comes out of the ghost field
 prev_prop : {K : ℕ → ℕ} {b top r : ℕ} → IsProp (Prev K b top r)
@@ -142,3 +142,7 @@ sound_in s c h l = ⊎_elim (λ z. absurd (omega (arith, h.large z))) (λ z. h.a
 -- and so has one with a slot that is free
 pub sound_with : (s : List Slot) (c : ℕ) → Whole s c → c < room_of s → Sound s c
 sound_with s c h l = ⊎_elim (λ z. absurd (omega (arith, room_large s z))) (λ z. h.allowed z) (cases_lt 65536 (length s))
+
+-- and so has one in which a key is found
+pub sound_at : (s : List Slot) (c : ℕ) (k : Key) (i : ℕ) → Whole s c → (0 < i) × Sought s c k i → Sound s c
+sound_at s c k i h f = sound_in s c h (omega (arith, f.0, f.1.within))

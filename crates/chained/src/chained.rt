@@ -1,8 +1,8 @@
 // A store over a lent table, by chains of slots.
-ghost use Rattle.std.specs.Prelude.{◌≡◌, ℕ, ◌-◌, ◌<◌, ◌≤◌, true, false, [], length, is_ok, if◌then◌else◌, Some, None};
+ghost use Rattle.std.specs.Prelude.{◌≡◌, false, [], is_ok, if◌then◌else◌, Some, None};
 ghost use Rattle.life.specs.Faults.{length_refused as refused};
-ghost use Rattle.life.specs.Pairs.{erase, added, admits, distinct, Same};
-ghost use Rattle.chained.specs.Table.{allowed_length as allowed, room_of as room_in, pairs_of as pairs_in, Whole, Emptied, Leaves};
+ghost use Rattle.life.specs.Pairs.{erase, added, admits, Same};
+ghost use Rattle.chained.specs.Table.{allowed_length as allowed, room_of as room_in, pairs_of as pairs_in, Emptied, Leaves};
 
 use crate::slot::Slot;
 use crate::table::{MOST, Table};

@@ -1,8 +1,7 @@
 // A table of slots: which slot has a key, and how a pair comes into its chain and out of it.
-ghost use Rattle.std.specs.Prelude.{◌≡◌, ℕ, ◌+◌, ◌-◌, ◌*◌, ◌<◌, ◌≤◌, true, false, not, ◌&&◌, ◌∷◌, length, Some, None, ◌≢◌, nat_le, nat_lt};
-ghost use Rattle.life.specs.Keys.{alike};
+ghost use Rattle.std.specs.Prelude.{◌≡◌, ℕ, ◌+◌, ◌-◌, ◌<◌, ◌≤◌, true, ◌∷◌, length, None, ◌≢◌, nat_le};
 ghost use Rattle.life.specs.Pairs.{look, distinct};
-ghost use Rattle.chained.specs.Table.{room_of as room_in, Becomes, at, chain_of, pairs_of, re, Linked, Chains, Sound, Sought, Place, Found, Rewired, Paired, Kept, Whole, Spare, Wiped, Emptied, Puts, Drops};
+ghost use Rattle.chained.specs.Table.{room_of as room_in, Becomes, at, chain_of, pairs_of, re, Linked, Chains, Sound, Place, Found, Rewired, Paired, Kept, Whole, Spare, Emptied, Puts, Drops};
 
 use crate::slot::Slot;
 use life::{Key, Life, NoRoom};
@@ -19,6 +18,9 @@ fn chain(key: &Key, n: usize) -> usize
 {
     1 + key.word as usize % (n - 1)
 }
+
+// The functions from here to `prepare` take the slots and how many are in use, not a `Table`: between their writes its invariant
+// does not hold.
 
 // Sets the link at `p`, or the head of the chain `b` where `p` is 0.
 fn set_link(slots: &mut [Slot], b: usize, p: usize, v: usize)
@@ -150,15 +152,6 @@ fn take_out(slots: &mut [Slot], count: usize, i: usize)
     link_in(slots, count, d, i);
 }
 
-// Ends every chain.
-fn wipe(slots: &mut [Slot])
-    ensures { Wiped slots.old slots.new }
-{
-    for slot in slots.iter_mut() {
-        slot.head = 0;
-    }
-}
-
 // Ends every chain, unless there are too many slots.
 fn prepare(slots: &mut [Slot])
     ensures { Emptied slots.old slots.new }
@@ -166,10 +159,13 @@ fn prepare(slots: &mut [Slot])
     if slots.len() > MOST {
         return;
     }
-    wipe(slots);
+    for slot in slots.iter_mut() {
+        slot.head = 0;
+    }
 }
 
-// A lent table, and how many of its slots are in use, each in the chain of its key.
+// A lent table, and how many of its slots are in use, each in the chain of its key. The table of `ordered` has methods of these
+// names, and no line of their bodies in common but for `is_full`.
 #[derive(Drop)]
 pub(crate) struct Table<'t> {
     pub(crate) slots: &'t mut [Slot],

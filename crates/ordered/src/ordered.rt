@@ -1,8 +1,8 @@
 // A store over a lent table, in the order of keys.
-ghost use Rattle.std.specs.Prelude.{◌≡◌, ℕ, ◌≤◌, true, [], length, is_ok, if◌then◌else◌, Some, None};
+ghost use Rattle.std.specs.Prelude.{◌≡◌, [], is_ok, if◌then◌else◌, Some, None};
 ghost use Rattle.life.specs.Faults.{length_refused as refused};
-ghost use Rattle.life.specs.Pairs.{look, erase, added, admits, distinct, Same};
-ghost use Rattle.ordered.specs.Table.{allowed, room_of as room_in, pairs_of as pairs_in, Sound, Puts, Drops};
+ghost use Rattle.life.specs.Pairs.{erase, added, admits, Same};
+ghost use Rattle.ordered.specs.Table.{allowed, room_of as room_in, pairs_of as pairs_in, Puts, Drops};
 
 use crate::entry::Entry;
 use crate::table::{LONGEST, Table};

@@ -10,6 +10,8 @@ use std::cmp::Ordering;
 // The most entries of a table.
 pub(crate) const LONGEST: usize = 65535;
 
+// `insert` and `delete` take the entries and how many are in use, not a `Table`: its invariant holds again with the new count.
+
 // Moves the entries from `i` on up by one place, and writes the new one at `i`.
 pub(crate) fn insert(entries: &mut [Entry], count: usize, i: usize, entry: Entry)
     requires place { i ≤ count }

@@ -1,6 +1,6 @@
-use Rattle.std.proofs.Common.{◌≡◌, ◌<◌, length, sym, ap, ◌∙◌, arith, rules}
+use Rattle.std.proofs.Common.{◌<◌, length, sym, ap, ◌∙◌, arith}
 use Rattle.chained.specs.declared.slot.Slot.{Slot}
-use Rattle.chained.specs.Table.{at, chain_of, chain_at, re, Linked}
+use Rattle.chained.specs.Table.{chain_of, chain_at}
 use Rattle.chained.proofs.Facts.{at_read}
 use Rattle.chained.proofs.Links.{paired_to}
 use Rattle.chained.proofs.Moves.{last_sound, last_becomes, k3, taken_sound, taken_becomes}
@@ -17,8 +17,8 @@ returns-then-i-count c =
       gone = last_becomes _ _ _ _ c.requires.sound c.requires.low c.if-i-count.true e.kept k;
     }
 
-pub link_in-requires : goal.link_in-requires
-link_in-requires c =
+pub link_in-requires-clause-chains : goal.link_in-requires-clause-chains
+link_in-requires-clause-chains c =
     let s = c.args.slots.now in
     let e = c.unlink.ensures in
     let k = e.linked (chain_at s) c.requires.sound.linked (sym (c.chain-b.ensures.is ∙ ap (λ (x : Slot). chain_of x.key (length s)) (at_read s _ _ (omega (arith, c.requires.sound.fits))))) in
@@ -27,15 +27,7 @@ link_in-requires c =
     let pair = paired_to c.set_pair.ensures (ap (λ (x : Slot). x.key) last) (ap (λ (x : Slot). x.life) last) in
     let less : c.args.i < c.args.count = omega arith in
     let more = c.unlink-2.ensures in
-    record {
-      chains = (_, k3 _ _ _ _ _ _ c.requires.sound c.requires.low less e.kept chain k more.kept more.linked _ pair);
-      fits = search rules;
-      small = search rules;
-      low = search rules;
-      high = search rules;
-      some = search rules;
-      within = search rules;
-    }
+    (_, k3 _ _ _ _ _ _ c.requires.sound c.requires.low less e.kept chain k more.kept more.linked _ pair)
 
 pub returns : goal.returns
 returns c =

@@ -1,13 +1,11 @@
 use Rattle.std.proofs.Common.{◌-◌, None, sym, refl, ◌∙◌, subst, arith}
 use Rattle.life.proofs.Lookups.{look_erase, same_absent}
 use Rattle.chained.specs.Table.{Becomes, pairs_of}
-use Rattle.chained.proofs.Facts.{opened, held, whole, whole_fits, sound_in, room_to, pairs_length, lookup_none}
+use Rattle.chained.proofs.Facts.{opened, held, whole, whole_fits, sound_at, room_to, pairs_length, lookup_none}
 use Rattle.chained.proofs.table.Table.remove.Goals as goal
 
-pub take_out-requires : goal.take_out-requires
-take_out-requires c =
-    let o = c.in-Some.ensures in
-    record { sound = sound_in _ _ (opened c.args.self.now.ok) (omega (arith, o.0, o.1.within)); low = o.0; high = o.1.within }
+pub take_out-requires-clause-sound : goal.take_out-requires-clause-sound
+take_out-requires-clause-sound c = sound_at _ _ _ _ (opened c.args.self.now.ok) c.in-Some.ensures
 
 pub invariant_of-self : goal.invariant_of-self
 invariant_of-self c =

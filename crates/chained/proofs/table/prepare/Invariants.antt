@@ -1,6 +1,6 @@
 use Rattle.std.proofs.Common.{◌≡◌, ℕ, ◌<◌}
 use Rattle.chained.specs.Table.{at}
-use Rattle.chained.proofs.table.wipe.Given as goal
+use Rattle.chained.proofs.table.prepare.Given as goal
 
 abbrev pub invariant-loop-slot : goal.invariant-loop-slot
 invariant-loop-slot l =
