@@ -13,8 +13,8 @@ pub fn total_of<M: Measure>(lives: &[(Key, Life)]) -> M
     ensures unordered { (ps : Lives) → Unique (plain lives.now) → Unique ps → Same (plain lives.now) ps → result ≡ total_of M.nil M.joined M.weight ps }
 {
     let mut sum = M::zero();
-    for pair in lives {
-        come(&mut sum, &pair.0, &pair.1);
+    for (key, life) in lives {
+        come(&mut sum, key, life);
     }
     sum
 }
@@ -24,9 +24,8 @@ pub fn come<M: Measure>(sum: &mut M, key: &Key, life: &Life)
     ensures joins { sum.new ≡ M.joined sum.old (share M.nil M.weight (key_parts key.now) (life_parts life.now)) }
     ensures sums { (ps qs : Lives) → sum.old ≡ total_of M.nil M.joined M.weight (ps ++ qs) → sum.new ≡ total_of M.nil M.joined M.weight (ps ++ (key_parts key.now, life_parts life.now) ∷ qs) }
 {
-    match life.state {
-        State::Open => sum.put(key, life),
-        State::Cancelled => {}
+    if let State::Open = life.state {
+        sum.put(key, life);
     }
 }
 
@@ -35,9 +34,8 @@ pub fn go<M: Measure>(sum: &mut M, key: &Key, life: &Life)
     ensures joins { sum.new ≡ M.joined sum.old (M.inverse (share M.nil M.weight (key_parts key.now) (life_parts life.now))) }
     ensures sums { (ps : Lives) → Unique ps → look (key_parts key.now) ps ≡ Some (life_parts life.now) → sum.old ≡ total_of M.nil M.joined M.weight ps → sum.new ≡ total_of M.nil M.joined M.weight (erase (key_parts key.now) ps) }
 {
-    match life.state {
-        State::Open => sum.take(key, life),
-        State::Cancelled => {}
+    if let State::Open = life.state {
+        sum.take(key, life);
     }
 }
 

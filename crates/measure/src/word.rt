@@ -83,8 +83,5 @@ fn side_mark(side: Side) -> u8
 fn price_bits(price: Option<i64>) -> u64
     ensures { result ≡ price_word price }
 {
-    match price {
-        Some(price) => price.cast_unsigned(),
-        None => 0,
-    }
+    price.map_or(0, |price| price.cast_unsigned())
 }
