@@ -52,6 +52,7 @@ impl Measure for Sheet {
     }
 
     fn join(&mut self, other: &Sheet) {
+        // Counted: no clause says what the cells hold after a loop over `iter_mut` with `zip`.
         for (i, cell) in self.cells.iter_mut().enumerate() {
             *cell = cell.wrapping_add(other.cells[i]);
         }

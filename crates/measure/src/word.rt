@@ -50,13 +50,11 @@ impl Measure for CheckWord {
 
     // Goes on from the word of the id, which the key keeps.
     fn weigh(key: &Key, life: &Life) -> CheckWord {
-        let id = hash_on(key.word, &[0x3B]);
-        let participant = hash_on(id, &key.participant);
-        let venue = hash_on(participant, &key.venue);
         let marks = [kind_mark(key.kind), side_mark(key.side), key.contract];
-        let marked = hash_on(venue, &marks);
-        let quantity = hash_on(marked, &life.quantity.to_le_bytes());
-        let word = hash_on(quantity, &price_bits(life.price).to_le_bytes());
+        let quantity = life.quantity.to_le_bytes();
+        let price = price_bits(life.price).to_le_bytes();
+        let parts: [&[u8]; 6] = [&[0x3B], &key.participant, &key.venue, &marks, &quantity, &price];
+        let word = parts.iter().fold(key.word, |word, part| hash_on(word, part));
         CheckWord { word }
     }
 }
