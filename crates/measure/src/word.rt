@@ -59,6 +59,7 @@ impl Measure for CheckWord {
     }
 }
 
+// Functions, not `From`: neither type of such an `impl` would be of this crate.
 fn kind_mark(kind: Kind) -> u8
     ensures { result ≡ kind_byte kind }
 {
