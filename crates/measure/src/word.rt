@@ -53,8 +53,17 @@ impl Measure for CheckWord {
         let marks = [kind_mark(key.kind), side_mark(key.side), key.contract];
         let quantity = life.quantity.to_le_bytes();
         let price = price_bits(life.price).to_le_bytes();
-        let parts: [&[u8]; 6] = [&[0x3B], &key.participant, &key.venue, &marks, &quantity, &price];
-        let word = parts.iter().fold(key.word, |word, part| hash_on(word, part));
+        let parts: [&[u8]; 6] = [
+            &[0x3B],
+            &key.participant,
+            &key.venue,
+            &marks,
+            &quantity,
+            &price,
+        ];
+        let word = parts
+            .iter()
+            .fold(key.word, |word, part| hash_on(word, part));
         CheckWord { word }
     }
 }

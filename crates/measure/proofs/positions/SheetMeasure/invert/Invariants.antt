@@ -1,4 +1,4 @@
-use Rattle.std.proofs.Common.{◌≡◌, ℕ, ◌+◌, ◌-◌, ◌%◌, ◌^◌, ◌<◌, ◌≤◌, get_or, length}
+use Rattle.std.proofs.Common.{◌≡◌, ℕ, ◌-◌, ◌%◌, ◌^◌, ◌<◌, ◌≤◌, get_or, length}
 use Rattle.measure.proofs.positions.SheetMeasure.invert.Given as goal
 
 abbrev pub invariant-loop-cell : goal.invariant-loop-cell

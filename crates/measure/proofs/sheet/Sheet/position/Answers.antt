@@ -1,4 +1,4 @@
-use Rattle.std.proofs.Common.{◌≡◌, ap, ◌∙◌, w64, to_z, of_z, rules}
+use Rattle.std.proofs.Common.{◌≡◌, ◌∙◌, w64, to_z, of_z, rules}
 use Rattle.measure.specs.Sheets.{position_of}
 use Rattle.measure.proofs.Exact.{exact, exact_plain}
 use Rattle.measure.proofs.sheet.Sheet.position.Goals as goal
