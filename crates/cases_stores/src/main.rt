@@ -61,10 +61,7 @@ fn drive<C: Store, O: Store>(rt: HostRuntime, chained: &mut C, ordered: &mut O) 
     let entries = ordered.capacity();
     println!(rt; "capacity: {slots}, {entries}")?;
     for (number, step) in (1..).zip(&STEPS) {
-        if let (Some(c), Some(o)) = (
-            answer(chained, step, number),
-            answer(ordered, step, number),
-        ) {
+        if let (Some(c), Some(o)) = (answer(chained, step, number), answer(ordered, step, number)) {
             println!(rt; "{number} {step}: {c}, {o}")?;
         }
     }

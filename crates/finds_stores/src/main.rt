@@ -64,9 +64,9 @@ fn main(rt: HostRuntime) -> io::Result<()> {
     let mut numbers = env::args(&rt)?
         .skip(1)
         .filter_map(|text| text.as_str().parse::<u16>().ok());
-    let Some(held) = numbers.next() else {
+    let Some(held) = numbers.find(|n| *n > 0) else {
         return run(rt, 40, 40, 1000, false);
     };
-    let among = numbers.next().unwrap_or(held);
+    let among = numbers.last().unwrap_or(held);
     run(rt, u32::from(held), u32::from(among), FINDS, true)
 }
