@@ -12,20 +12,18 @@ use steps::{Name, STEPS, Step};
 // What a store answered.
 #[derive(Clone, Copy, Drop)]
 enum Said {
-    Held(u32),
-    None,
-    Put,
-    Full,
+    Found(Option<u32>),
+    Put(Result<(), NoRoom>),
     Done,
 }
 
 impl fmt::Display for Said {
     fn fmt<W: fmt::Write>(&self, f: &mut fmt::Formatter<W>) -> fmt::Result {
         match *self {
-            Said::Held(time) => write!(f, "life of {time}"),
-            Said::None => write!(f, "none"),
-            Said::Put => write!(f, "put"),
-            Said::Full => write!(f, "full"),
+            Said::Found(Some(time)) => write!(f, "life of {time}"),
+            Said::Found(None) => write!(f, "none"),
+            Said::Put(Ok(())) => write!(f, "put"),
+            Said::Put(Err(NoRoom)) => write!(f, "full"),
             Said::Done => write!(f, "done"),
         }
     }
@@ -44,37 +42,27 @@ fn key_of(name: &Name) -> Option<Key> {
 
 // The step's answer. A life that is put has the number of its step as its time.
 fn answer<S: Store>(store: &mut S, step: &Step, time: u32) -> Option<Said> {
-    match step {
-        Step::Put(name) => match store.put(&key_of(name)?, Life::new(time, 100, None)?) {
-            Ok(()) => Some(Said::Put),
-            Err(NoRoom) => Some(Said::Full),
-        },
-        Step::Find(name) => match store.find(&key_of(name)?) {
-            Some(life) => Some(Said::Held(life.time)),
-            None => Some(Said::None),
-        },
+    Some(match step {
+        Step::Put(name) => Said::Put(store.put(&key_of(name)?, Life::new(time, 100, None)?)),
+        Step::Find(name) => Said::Found(store.find(&key_of(name)?).map(|life| life.time)),
         Step::Remove(name) => {
             store.remove(&key_of(name)?);
-            Some(Said::Done)
+            Said::Done
         }
         Step::Empty => {
             store.empty();
-            Some(Said::Done)
+            Said::Done
         }
-    }
+    })
 }
 
 fn drive<C: Store, O: Store>(rt: HostRuntime, chained: &mut C, ordered: &mut O) -> io::Result<()> {
     let slots = chained.capacity();
     let entries = ordered.capacity();
     println!(rt; "capacity: {slots}, {entries}")?;
-    let mut number = 0;
-    for step in &STEPS {
-        number += 1;
-        if let Some(c) = answer(chained, step, number) {
-            if let Some(o) = answer(ordered, step, number) {
-                println!(rt; "{number} {step}: {c}, {o}")?;
-            }
+    for (number, step) in (1..).zip(&STEPS) {
+        if let (Some(c), Some(o)) = (answer(chained, step, number), answer(ordered, step, number)) {
+            println!(rt; "{number} {step}: {c}, {o}")?;
         }
     }
     Ok(())
@@ -99,10 +87,7 @@ fn without_room(rt: HostRuntime, slot: Slot, entry: Entry) -> io::Result<()> {
 }
 
 fn length(r: Result<(), TableFault>) -> u8 {
-    match r {
-        Ok(()) => 0,
-        Err(fault) => fault.number(),
-    }
+    r.err().map_or(0, |fault| fault.number())
 }
 
 fn lengths(rt: HostRuntime) -> io::Result<()> {

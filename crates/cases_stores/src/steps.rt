@@ -53,54 +53,25 @@ const A1: Name = Name {
     side: Side::Buy,
 };
 
-const A2: Name = Name {
-    kind: Kind::Trade,
-    id: "a",
-    contract: 2,
-    side: Side::Buy,
-};
+const A2: Name = Name { contract: 2, ..A1 };
 
-const A3: Name = Name {
-    kind: Kind::Trade,
-    id: "a",
-    contract: 3,
-    side: Side::Buy,
-};
+const A3: Name = Name { contract: 3, ..A1 };
 
 const A3_SOLD: Name = Name {
-    kind: Kind::Trade,
-    id: "a",
-    contract: 3,
     side: Side::Sell,
+    ..A3
 };
 
 const A3_ORDER: Name = Name {
     kind: Kind::Order,
-    id: "a",
-    contract: 3,
-    side: Side::Buy,
+    ..A3
 };
 
-const NONE: Name = Name {
-    kind: Kind::Trade,
-    id: "",
-    contract: 1,
-    side: Side::Buy,
-};
+const NONE: Name = Name { id: "", ..A1 };
 
-const AB: Name = Name {
-    kind: Kind::Trade,
-    id: "ab",
-    contract: 1,
-    side: Side::Buy,
-};
+const AB: Name = Name { id: "ab", ..A1 };
 
-const ABC: Name = Name {
-    kind: Kind::Trade,
-    id: "abc",
-    contract: 1,
-    side: Side::Buy,
-};
+const ABC: Name = Name { id: "abc", ..A1 };
 
 const B: Name = Name {
     kind: Kind::Trade,

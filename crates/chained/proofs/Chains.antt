@@ -1,6 +1,6 @@
 -- What the table's invariant gives.
-use Rattle.std.proofs.Common.{◌≡◌, ℕ, zero, suc, ◌<◌, ◌≤◌, Bool, true, false, not, ◌&&◌, ltb, List, length, Some, sym, refl, ap, ◌∙◌, subst, ⊎_elim, true≢false, arith}
-use Rattle.std.proofs.lemmas.Bool.{cases_order, cases_eq, and_parts, and_from, ltb-true, lt-ltb, both_ways, cases_Bool}
+use Rattle.std.proofs.Common.{◌≡◌, ℕ, zero, suc, ◌+◌, ◌<◌, ◌≤◌, false, List, length, Some, sym, ap, ◌∙◌, subst, ⊎_elim, arith}
+use Rattle.std.proofs.lemmas.Bool.{cases_order, cases_eq, both_ways, cases_Bool}
 use Rattle.life.specs.declared.key.Key.{Key}
 use Rattle.chained.specs.declared.slot.Slot.{Slot}
 use Rattle.life.specs.Keys.{alike as same}
@@ -8,17 +8,15 @@ use Rattle.life.specs.Pairs.{look as lookup}
 use Rattle.chained.proofs.Facts.{same_true, same_self}
 use Rattle.chained.specs.Table.{at, chain_of, chain_at, pairs_of, Prev, Sound}
 
-not_false : (x : Bool) → not x ≡ true → x ≡ false
-not_false true h = absurd (true≢false (sym h))
-not_false false h = refl
-
--- where the search goes on, and where it ends
-pub goes : (j : ℕ) (x : Bool) → true ≡ (ltb 0 j && not x) → (0 < j) × (x ≡ false)
-goes j x e = let p = and_parts (ltb 0 j) (not x) (sym e) in (ltb-true 0 j p.0, not_false x p.1)
-
-pub ends : (j : ℕ) (x : Bool) → false ≡ (ltb 0 j && not x) → 0 < j → x ≡ true
-ends j true e l = refl
-ends j false e l = absurd (true≢false (sym (and_from (ltb 0 j) true (lt-ltb 0 j l) refl) ∙ sym e))
+-- where the walk begins: past the head of its chain, the key is not found
+pub start : (s : List Slot) (c : ℕ) (k : Key) (b j : ℕ) → j ≡ (at s b).head → Sound s c → b ≡ chain_of k (length s) → 0 < b → b < length s
+    → (j ≤ c) × (0 < j → chain_at s j ≡ chain_of k (length s)) × ((m : ℕ) → j < m → m ≤ c → (at s m).key ≡ k → ⊥)
+start s c k b j e sound is low high =
+    let p : Prev (chain_at s) b (c + 1) (at s b).head = sound.linked.heads b low high in (
+      omega (arith, p.below),
+      (λ h. ap (chain_at s) e ∙ p.hit (omega arith) ∙ is),
+      λ m l h q. p.gap m (omega arith) (omega arith) (ap (λ x. chain_of x (length s)) q ∙ sym is),
+    )
 
 -- a step of the walk: what was not found past j is not found past the next of j
 pub step : (s : List Slot) (c : ℕ) (k : Key) (j : ℕ) → Sound s c → 0 < j → j ≤ c → chain_at s j ≡ chain_of k (length s)

@@ -1,17 +1,19 @@
 -- What the table's invariant says of the pairs: lemmas for the ghost members of a store.
-use Rattle.std.proofs.Common.{◌≡◌, ℕ, zero, suc, ◌-◌, ◌<◌, ◌≤◌, true, cond, leb, List, [], length, None, sym, refl, ap, ◌∙◌, subst, ⊎_elim, arith}
+use Rattle.std.proofs.Common.{◌≡◌, ℕ, zero, suc, ◌-◌, ◌<◌, ◌≤◌, true, Bool, cond, leb, List, [], length, get_or, None, sym, refl, ap, ◌∙◌, subst, ⊎_elim, arith}
 use mathlib.Core.Logic.{∥∥₁_elim}
 use std.HLevel.{Π_prop, ⊥_prop}
 use native.Mathlib.Bridge.{le_prop}
 use base.Stored.{Coded-set, coded_ℕ}
+use Rattle.std.proofs.lemmas.List.{get_or_default}
 use Rattle.std.proofs.lemmas.Bool.{cases_Bool, cases_lt, le-leb, lt-leb, cond-true, cond-false}
 use Rattle.life.specs.declared.key.Key.{Key}
 use Rattle.chained.specs.declared.slot.Slot.{Slot}
-use Rattle.life.specs.Keys.{alike as same}
+use Rattle.life.specs.Parts.{key_parts}
+use Rattle.life.specs.Keys.{alike as same, same_key}
 use Rattle.life.specs.Pairs.{look as lookup, Unique}
 use Rattle.life.proofs.KeyOrder.{key_eq, key_same}
 use Rattle.life.proofs.Lookups.{unique_from}
-use Rattle.chained.specs.Table.{at, pairs_of, room_of, Prev, Linked, Sound, Whole, Held, Emptied}
+use Rattle.chained.specs.Table.{none, at, pairs_of, room_of, Prev, Linked, Sound, Sought, Whole, Held, Emptied}
 
 -- the invariant holds in one way, so it comes out of the ghost field
 prev_prop : {K : ℕ → ℕ} {b top r : ℕ} → IsProp (Prev K b top r)
@@ -43,6 +45,15 @@ whole_prop p q = λ i. record {
 
 pub opened : {s : List Slot} {c : ℕ} → ∥ Whole s c ∥₁ → Whole s c
 opened h = ∥∥₁_elim h whole_prop (λ x. x)
+
+-- what a read gives
+pub at_read : (s : List Slot) (i : ℕ) (x : Slot) → i < length s → get_or s i x ≡ at s i
+at_read s i x l = get_or_default s i x none l
+
+-- what a comparison tells of a slot
+pub told : (s : List Slot) (i : ℕ) (x : Slot) (k : Key) (b : Bool) → x ≡ at s i → b ≡ same_key (key_parts x.key) (key_parts k) → same (at s i).key k ≡ b
+unfolding same
+told s i x k b r e = ap (λ (y : Slot). same y.key k) (sym r) ∙ sym e
 
 pub same_true : (k q : Key) → same k q ≡ true → k ≡ q
 same_true k q e = key_eq k q e
@@ -131,3 +142,7 @@ sound_in s c h l = ⊎_elim (λ z. absurd (omega (arith, h.large z))) (λ z. h.a
 -- and so has one with a slot that is free
 pub sound_with : (s : List Slot) (c : ℕ) → Whole s c → c < room_of s → Sound s c
 sound_with s c h l = ⊎_elim (λ z. absurd (omega (arith, room_large s z))) (λ z. h.allowed z) (cases_lt 65536 (length s))
+
+-- and so has one in which a key is found
+pub sound_at : (s : List Slot) (c : ℕ) (k : Key) (i : ℕ) → Whole s c → (0 < i) × Sought s c k i → Sound s c
+sound_at s c k i h f = sound_in s c h (omega (arith, f.0, f.1.within))

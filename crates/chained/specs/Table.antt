@@ -1,5 +1,5 @@
 -- A table of slots in which pairs are held and chained.
-use Rattle.std.specs.Prelude.{◌≡◌, ℕ, zero, suc, ◌+◌, ◌-◌, ◌%◌, ◌<◌, ◌≤◌, Bool, true, false, cond, List, [], ◌∷◌, length, is_ok, Option, Result, ◌==◌, ◌≢◌, nat_le, slice_index_or}
+use Rattle.std.specs.Prelude.{◌≡◌, ℕ, zero, suc, ◌+◌, ◌-◌, ◌%◌, ◌<◌, ◌≤◌, Bool, true, false, cond, List, [], ◌∷◌, length, is_ok, Some, None, Option, Result, ◌==◌, ◌≢◌, nat_le, slice_index_or}
 use Rattle.life.specs.declared.store.NoRoom.{NoRoom}
 use Rattle.life.specs.Keys.{alike}
 use Rattle.text.specs.Bytes.{between}
@@ -63,6 +63,11 @@ pub record Sought (s : List Slot) (c : ℕ) (k : Key) (r : ℕ) : Type 0 where
   pub within : r ≤ c
   pub held : 0 < r → (at s r).key ≡ k
   pub missed : r ≡ 0 → (m : ℕ) → 0 < m → m ≤ c → (at s m).key ≢ k
+
+-- the place of the key k among the slots 1 to c, if there is one
+abbrev pub Found : List Slot → ℕ → Key → Option ℕ → Type 0
+Found s c k None = Sought s c k 0
+Found s c k (Some i) = (0 < i) × Sought s c k i
 
 -- p is the place in the chain b whose link passes over i, or 0 for the head
 pub record Place (s : List Slot) (c b i p : ℕ) : Type 0 where

@@ -1,19 +1,16 @@
 // A store over a lent table, by chains of slots.
-ghost use Rattle.std.specs.Prelude.{◌≡◌, ℕ, ◌-◌, ◌<◌, ◌≤◌, true, false, [], length, is_ok, if◌then◌else◌, Some, None};
+ghost use Rattle.std.specs.Prelude.{◌≡◌, false, [], is_ok, if◌then◌else◌, Some, None};
 ghost use Rattle.life.specs.Faults.{length_refused as refused};
-ghost use Rattle.life.specs.Pairs.{erase, added, admits, distinct, Same};
-ghost use Rattle.chained.specs.Table.{allowed_length as allowed, room_of as room_in, pairs_of as pairs_in, Whole, Emptied, Leaves};
+ghost use Rattle.life.specs.Pairs.{erase, added, admits, Same};
+ghost use Rattle.chained.specs.Table.{allowed_length as allowed, room_of as room_in, pairs_of as pairs_in, Emptied, Leaves};
 
 use crate::slot::Slot;
 use crate::table::{MOST, Table};
-use life::{Key, Life, NoRoom, Store, TableFault};
+use life::{Key, Life, NoRoom, Store, TableFault, check_length};
 
 #[derive(Drop)]
 pub struct Chained<'t> {
     table: Table<'t>,
-    ghost ok: { ∥ Whole table.slots.now table.count ∥₁ },
-    ghost apart: { distinct (pairs_in table.slots.now table.count) ≡ true },
-    ghost fits: { length (pairs_in table.slots.now table.count) ≤ room_in table.slots.now },
 }
 
 impl<'t> Chained<'t> {
@@ -21,10 +18,7 @@ impl<'t> Chained<'t> {
     pub fn check(n: usize) -> Result<(), TableFault>
         ensures { refused result ≡ (if allowed n then None else Some 72) }
     {
-        if n < 1 || n > MOST {
-            return Err(TableFault::Length);
-        }
-        Ok(())
+        check_length::<MOST>(n)
     }
 
     // An empty store over the table, whatever it held. A table whose length is not allowed has no room and is left alone.
@@ -32,9 +26,9 @@ impl<'t> Chained<'t> {
         ensures none { pairs_in result.table.slots.now result.table.count ≡ [] }
         ensures table { Emptied slots.old result.table.slots.now }
     {
-        let mut table = Table { slots, count: 0 };
-        table.empty();
-        Chained { table }
+        Chained {
+            table: Table::new(slots),
+        }
     }
 }
 
@@ -43,9 +37,9 @@ impl<'t> Store for Chained<'t> {
 
     ghost room = { λ s. room_in s.table.slots.now };
 
-    ghost unique = { λ s. s.apart };
+    ghost unique = { λ s. s.table.apart };
 
-    ghost within = { λ s. s.fits };
+    ghost within = { λ s. s.table.fits };
 
     fn capacity(&self) -> usize {
         self.table.room()

@@ -2,7 +2,7 @@
 use life::{Key, Life};
 
 // It starts the chain of its own number at `head`, and holds a pair that is followed in its chain by the slot `next`. Zero ends
-// a chain.
+// a chain. Links are numbers of slots: the caller lends the whole table, and nothing is allocated.
 #[derive(Clone, Copy)]
 pub struct Slot {
     pub head: u32,

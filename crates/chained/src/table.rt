@@ -1,8 +1,7 @@
 // A table of slots: which slot has a key, and how a pair comes into its chain and out of it.
-ghost use Rattle.std.specs.Prelude.{◌≡◌, ℕ, ◌+◌, ◌-◌, ◌*◌, ◌<◌, ◌≤◌, true, false, not, ◌&&◌, ◌∷◌, length, Some, None, ◌≢◌, nat_le, nat_lt};
-ghost use Rattle.life.specs.Keys.{alike};
-ghost use Rattle.life.specs.Pairs.{look};
-ghost use Rattle.chained.specs.Table.{room_of as room_in, Becomes, at, chain_of, pairs_of, re, Linked, Chains, Sound, Sought, Place, Rewired, Paired, Kept, Whole, Held, Spare, Wiped, Emptied, Puts, Drops};
+ghost use Rattle.std.specs.Prelude.{◌≡◌, ℕ, ◌+◌, ◌-◌, ◌<◌, ◌≤◌, true, ◌∷◌, length, None, ◌≢◌, nat_le};
+ghost use Rattle.life.specs.Pairs.{look, distinct};
+ghost use Rattle.chained.specs.Table.{room_of as room_in, Becomes, at, chain_of, pairs_of, re, Linked, Chains, Sound, Place, Found, Rewired, Paired, Kept, Whole, Spare, Emptied, Puts, Drops};
 
 use crate::slot::Slot;
 use life::{Key, Life, NoRoom};
@@ -20,77 +19,21 @@ fn chain(key: &Key, n: usize) -> usize
     1 + key.word as usize % (n - 1)
 }
 
-fn head_of(slots: &[Slot], i: usize) -> usize
-    requires { i < length slots.now }
-    ensures { result ≡ (at slots.now i).head }
-{
-    slots[i].head as usize
-}
-
-fn next_of(slots: &[Slot], i: usize) -> usize
-    requires { i < length slots.now }
-    ensures { result ≡ (at slots.now i).next }
-{
-    slots[i].next as usize
-}
-
-fn key_of(slots: &[Slot], i: usize) -> Key
-    requires { i < length slots.now }
-    ensures { result ≡ (at slots.now i).key }
-{
-    slots[i].key
-}
-
-fn life_of(slots: &[Slot], i: usize) -> Life
-    requires { i < length slots.now }
-    ensures { result ≡ (at slots.now i).life }
-{
-    slots[i].life
-}
-
-// Whether the slot has the key.
-fn has_key(slots: &[Slot], i: usize, key: &Key) -> bool
-    requires { i < length slots.now }
-    ensures { result ≡ alike (at slots.now i).key key.now }
-{
-    slots[i].key.same(key)
-}
-
-// Whether the search for a key goes on past the slot `j`: there is one, and it has another key.
-fn goes_on(slots: &[Slot], j: usize, key: &Key) -> bool
-    requires { j < length slots.now }
-    ensures { result ≡ (nat_lt 0 j && not (alike (at slots.now j).key key.now)) }
-{
-    j > 0 && !has_key(slots, j, key)
-}
-
-// The place of a key, or 0. Zero ends a chain.
-fn seek(slots: &[Slot], count: usize, key: &Key) -> usize
-    requires { Sound slots.now count }
-    ensures { Sought slots.now count key.now result }
-{
-    let n = slots.len();
-    if n < 2 {
-        return 0;
-    }
-    let b = chain(key, n);
-    let mut j = head_of(slots, b);
-    while goes_on(slots, j, key) {
-        j = next_of(slots, j);
-    }
-    j
-}
+// The functions from here to `prepare` take the slots and how many are in use, not a `Table`: between their writes its invariant
+// does not hold.
 
 // Sets the link at `p`, or the head of the chain `b` where `p` is 0.
 fn set_link(slots: &mut [Slot], b: usize, p: usize, v: usize)
-    requires { (b < length slots.old) × ((p < length slots.old) × (v ≤ 65536)) }
+    requires chain { b < length slots.old }
+    requires place { p < length slots.old }
+    requires small { v ≤ 65536 }
     ensures { Rewired slots.old slots.new b p v }
 {
     if p == 0 {
         slots[b].head = v as u32;
-        return;
+    } else {
+        slots[p].next = v as u32;
     }
-    slots[p].next = v as u32;
 }
 
 // Writes the pair of the slot `i`.
@@ -98,14 +41,9 @@ fn set_pair(slots: &mut [Slot], i: usize, key: Key, life: Life)
     requires { i < length slots.old }
     ensures { Paired slots.old slots.new i key life }
 {
-    let head = slots[i].head;
-    let next = slots[i].next;
-    slots[i] = Slot {
-        head,
-        next,
-        key,
-        life,
-    };
+    let slot = &mut slots[i];
+    slot.key = key;
+    slot.life = life;
 }
 
 // Takes the slot after the last one in use for a new key.
@@ -119,8 +57,8 @@ fn add(slots: &mut [Slot], count: usize, key: &Key, life: Life)
 {
     let b = chain(key, slots.len());
     let t = count + 1;
-    let old = head_of(slots, b);
-    set_link(slots, b, t, old);
+    let first = slots[b].head as usize;
+    set_link(slots, b, t, first);
     set_pair(slots, t, *key, life);
     set_link(slots, b, 0, t);
 }
@@ -134,10 +72,10 @@ fn place(slots: &[Slot], count: usize, b: usize, i: usize) -> usize
     ensures { Place slots.now count b i result }
 {
     let mut p = 0;
-    let mut j = head_of(slots, b);
+    let mut j = slots[b].head as usize;
     while j > i {
         p = j;
-        j = next_of(slots, j);
+        j = slots[j].next as usize;
     }
     p
 }
@@ -145,13 +83,17 @@ fn place(slots: &[Slot], count: usize, b: usize, i: usize) -> usize
 // Takes the slot `i` out of the chain `b`.
 fn unlink(slots: &mut [Slot], count: usize, b: usize, i: usize)
     requires chains { Chains slots.old count }
-    requires fits { (count < length slots.old) × (length slots.old ≤ 65536) }
-    requires chain { (0 < b) × (b < length slots.old) }
-    requires slot { (0 < i) × ((i ≤ count) × ((at slots.old i).next ≤ 65536)) }
+    requires fits { count < length slots.old }
+    requires small { length slots.old ≤ 65536 }
+    requires low { 0 < b }
+    requires high { b < length slots.old }
+    requires some { 0 < i }
+    requires within { i ≤ count }
+    requires next { (at slots.old i).next ≤ 65536 }
     ensures kept { Kept slots.old slots.new }
     ensures linked { (K : ℕ → ℕ) → Linked K slots.old count → K i ≡ b → Linked (re K i 0) slots.new count }
 {
-    let after = next_of(slots, i);
+    let after = slots[i].next as usize;
     let p = place(slots, count, b, i);
     set_link(slots, b, p, after);
 }
@@ -159,9 +101,12 @@ fn unlink(slots: &mut [Slot], count: usize, b: usize, i: usize)
 // Puts the slot `i` into the chain `b`.
 fn link_in(slots: &mut [Slot], count: usize, b: usize, i: usize)
     requires chains { Chains slots.old count }
-    requires fits { (count < length slots.old) × (length slots.old ≤ 65536) }
-    requires chain { (0 < b) × (b < length slots.old) }
-    requires slot { (0 < i) × (i ≤ count) }
+    requires fits { count < length slots.old }
+    requires small { length slots.old ≤ 65536 }
+    requires low { 0 < b }
+    requires high { b < length slots.old }
+    requires some { 0 < i }
+    requires within { i ≤ count }
     ensures kept { Kept slots.old slots.new }
     ensures linked { (K : ℕ → ℕ) → Linked K slots.old count → K i ≡ 0 → Linked (re K i b) slots.new count }
 {
@@ -173,7 +118,8 @@ fn link_in(slots: &mut [Slot], count: usize, b: usize, i: usize)
 
 // The link at `p`, or the head of the chain `b` where `p` is 0.
 fn link(slots: &[Slot], b: usize, p: usize) -> usize
-    requires { (b < length slots.now) × (p < length slots.now) }
+    requires chain { b < length slots.now }
+    requires place { p < length slots.now }
     ensures head { p ≡ 0 → result ≡ (at slots.now b).head }
     ensures next { 0 < p → result ≡ (at slots.now p).next }
 {
@@ -194,27 +140,16 @@ fn take_out(slots: &mut [Slot], count: usize, i: usize)
     ensures gone { Becomes (pairs_of slots.old count) (pairs_of slots.new (count - 1)) (at slots.old i).key None }
 {
     let n = slots.len();
-    let gone = key_of(slots, i);
-    let b = chain(&gone, n);
+    let b = chain(&slots[i].key, n);
     unlink(slots, count, b, i);
     if i == count {
         return;
     }
-    let key = key_of(slots, count);
-    let life = life_of(slots, count);
-    let d = chain(&key, n);
+    let last = slots[count];
+    let d = chain(&last.key, n);
     unlink(slots, count, d, count);
-    set_pair(slots, i, key, life);
+    set_pair(slots, i, last.key, last.life);
     link_in(slots, count, d, i);
-}
-
-// Ends every chain.
-fn wipe(slots: &mut [Slot])
-    ensures { Wiped slots.old slots.new }
-{
-    for i in 0..slots.len() {
-        slots[i].head = 0;
-    }
 }
 
 // Ends every chain, unless there are too many slots.
@@ -224,22 +159,30 @@ fn prepare(slots: &mut [Slot])
     if slots.len() > MOST {
         return;
     }
-    wipe(slots);
+    for slot in slots.iter_mut() {
+        slot.head = 0;
+    }
 }
 
-// A lent table and how many of its slots are in use.
+// A lent table, and how many of its slots are in use, each in the chain of its key. The table of `ordered` has methods of these
+// names, and no line of their bodies in common but for `is_full`.
 #[derive(Drop)]
 pub(crate) struct Table<'t> {
     pub(crate) slots: &'t mut [Slot],
     pub(crate) count: usize,
+    ghost ok: { ∥ Whole slots.now count ∥₁ },
+    ghost apart: { distinct (pairs_of slots.now count) ≡ true },
+    ghost fits: { length (pairs_of slots.now count) ≤ room_in slots.now },
 }
 
 impl<'t> Table<'t> {
-    // Whether it has too many slots.
-    fn large(&self) -> bool
-        ensures { result ≡ nat_lt 65536 (length self.now.slots.now) }
+    // No slot is in use yet. A table with too many slots is left alone.
+    pub(crate) fn new(slots: &'t mut [Slot]) -> Table<'t>
+        ensures count { result.count ≡ 0 }
+        ensures table { Emptied slots.old result.slots.now }
     {
-        self.slots.len() > MOST
+        prepare(slots);
+        Table { slots, count: 0 }
     }
 
     // How many slots can be in use.
@@ -247,18 +190,27 @@ impl<'t> Table<'t> {
         ensures { result ≡ room_in self.now.slots.now }
     {
         let n = self.slots.len();
-        if n >= 1 && n <= MOST { n - 1 } else { 0 }
+        if n <= MOST { n.saturating_sub(1) } else { 0 }
     }
 
-    // The slot of the key, or 0.
-    fn place_of(&self, key: &Key) -> usize
-        requires { ∥ Whole self.now.slots.now self.now.count ∥₁ }
-        ensures { Sought self.now.slots.now self.now.count key.now result }
+    // The slot of the key, if it is held. A table whose length is not allowed holds none.
+    fn place_of(&self, key: &Key) -> Option<usize>
+        ensures { Found self.now.slots.now self.now.count key.now result }
     {
-        if self.large() {
-            return 0;
+        let slots = &*self.slots;
+        let n = slots.len();
+        if n < 2 || n > MOST {
+            return None;
         }
-        seek(self.slots, self.count, key)
+        let mut j = slots[chain(key, n)].head as usize;
+        while j > 0 {
+            let slot = &slots[j];
+            if slot.key.same(key) {
+                return Some(j);
+            }
+            j = slot.next as usize;
+        }
+        None
     }
 
     // Whether no slot is free.
@@ -270,52 +222,41 @@ impl<'t> Table<'t> {
 
     // The life at the key, if one is held.
     pub(crate) fn find(&self, key: &Key) -> Option<Life>
-        requires { ∥ Whole self.now.slots.now self.now.count ∥₁ }
         ensures { result ≡ look key.now (pairs_of self.now.slots.now self.now.count) }
     {
-        let i = self.place_of(key);
-        if i == 0 {
-            return None;
-        }
-        Some(life_of(self.slots, i))
+        let i = self.place_of(key)?;
+        Some(self.slots[i].life)
     }
 
     // Puts the life at the key. Refused where the key is new and the table is full.
     pub(crate) fn put(&mut self, key: &Key, life: Life) -> Result<(), NoRoom>
-        requires { ∥ Whole self.old.slots.now self.old.count ∥₁ }
         ensures { Puts self.old.slots.now self.old.count self.new.slots.now self.new.count key.now life result }
     {
-        let count = self.count;
-        let i = self.place_of(key);
-        if i > 0 {
+        if let Some(i) = self.place_of(key) {
             set_pair(self.slots, i, *key, life);
             return Ok(());
         }
         if self.is_full() {
             return Err(NoRoom);
         }
-        add(self.slots, count, key, life);
-        self.count = count + 1;
+        add(self.slots, self.count, key, life);
+        self.count += 1;
         Ok(())
     }
 
     // Takes away the pair at the key, if there is one.
     pub(crate) fn remove(&mut self, key: &Key)
-        requires { ∥ Whole self.old.slots.now self.old.count ∥₁ }
         ensures { Drops self.old.slots.now self.old.count self.new.slots.now self.new.count key.now }
     {
-        let count = self.count;
-        let i = self.place_of(key);
-        if i > 0 {
-            take_out(self.slots, count, i);
-            self.count = count - 1;
+        if let Some(i) = self.place_of(key) {
+            take_out(self.slots, self.count, i);
+            self.count -= 1;
         }
     }
 
     // Takes every pair away. A table with too many slots is left alone.
     pub(crate) fn empty(&mut self)
         ensures count { self.new.count ≡ 0 }
-        ensures held { Held self.new.slots.now self.new.count }
         ensures room { room_in self.new.slots.now ≡ room_in self.old.slots.now }
         ensures table { Emptied self.old.slots.now self.new.slots.now }
     {

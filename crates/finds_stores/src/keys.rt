@@ -3,14 +3,12 @@ use life::{Key, Life, Store};
 use std::alloc::{AllocError, Global};
 use text::{Kind, Side};
 
-const PLACES: usize = 8;
-
 // The trade of a number: its id has eight digits, so that the order of keys is that of numbers.
 pub(crate) fn key_of(number: u32) -> Option<Key> {
     let mut id = [b'0'; 8];
     let mut rest = number;
-    for i in 0..PLACES {
-        id[PLACES - 1 - i] = b'0' + (rest % 10) as u8;
+    for digit in id.iter_mut().rev() {
+        *digit = b'0' + (rest % 10) as u8;
         rest /= 10;
     }
     Key::new(Kind::Trade, &id, 1, b"XBIL", b"A0000000A.EU", Side::Buy)
@@ -19,10 +17,8 @@ pub(crate) fn key_of(number: u32) -> Option<Key> {
 // Puts a life at each number below `held`, with that number as its time.
 pub(crate) fn fill<S: Store>(store: &mut S, held: u32) {
     for i in 0..held {
-        if let Some(key) = key_of(i) {
-            if let Some(life) = Life::new(i, 100, None) {
-                let _ = store.put(&key, life);
-            }
+        if let (Some(key), Some(life)) = (key_of(i), Life::new(i, 100, None)) {
+            let _ = store.put(&key, life);
         }
     }
 }
@@ -60,7 +56,7 @@ pub(crate) fn find_all<S: Store>(store: &S, keys: &[Key]) -> u64 {
     let mut sum: u64 = 0;
     for key in keys {
         if let Some(life) = store.find(key) {
-            sum = sum.wrapping_add(life.time as u64);
+            sum = sum.wrapping_add(u64::from(life.time));
         }
     }
     sum

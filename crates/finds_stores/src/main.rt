@@ -61,18 +61,12 @@ fn run(rt: HostRuntime, held: u32, among: u32, finds: usize, time: bool) -> io::
 }
 
 fn main(rt: HostRuntime) -> io::Result<()> {
-    let mut held: u32 = 0;
-    let mut among: u32 = 0;
-    for text in env::args(&rt)?.skip(1) {
-        if let Ok(number) = text.as_str().parse::<u16>() {
-            if held == 0 {
-                held = u32::from(number);
-            }
-            among = u32::from(number);
-        }
-    }
-    if held == 0 {
+    let mut numbers = env::args(&rt)?
+        .skip(1)
+        .filter_map(|text| text.as_str().parse::<u16>().ok());
+    let Some(held) = numbers.find(|n| *n > 0) else {
         return run(rt, 40, 40, 1000, false);
-    }
-    run(rt, held, among, FINDS, true)
+    };
+    let among = numbers.last().unwrap_or(held);
+    run(rt, u32::from(held), u32::from(among), FINDS, true)
 }

@@ -1,14 +1,10 @@
 -- What the laws of joining give of totals: one life more, less or altered; and that the order of a list does not count.
-use Rattle.std.proofs.Common.{◌≡◌, ℕ, ◌+◌, ◌<◌, Bool, true, false, cond, List, [], ◌∷◌, ◌++◌, length, get_or, take, Some, None, Option, sym, refl, ap, ◌∙◌, subst, ⊎_elim, append-nil, arith}
-use mathlib.Core.List.{map-append}
-use Rattle.std.proofs.lemmas.List.{take_more}
+use Rattle.std.proofs.Common.{◌≡◌, ℕ, Bool, true, false, cond, [], ◌∷◌, ◌++◌, Some, None, Option, sym, refl, ap, ◌∙◌, subst, ⊎_elim, arith}
 use Rattle.std.proofs.lemmas.Bool.{cond-true, cases_Bool}
-use Rattle.life.specs.declared.key.Key.{Key}
-use Rattle.life.specs.declared.life.Life.{Life}
-use Rattle.life.specs.Parts.{KeyParts, LifeParts, key_parts, life_parts}
+use Rattle.life.specs.Parts.{KeyParts, LifeParts}
 use Rattle.measure.specs.Group.{Group}
 use Rattle.life.specs.Keys.{same_key}
-use Rattle.life.specs.Lives.{Lives, plain_pair, plain, look, Unique, Same, altered, erase}
+use Rattle.life.specs.Lives.{Lives, look, Unique, Same, altered, erase}
 use Rattle.measure.specs.Totals.{share, total_of}
 use Rattle.life.proofs.KeyOrder.{parts_same, parts_eq}
 use Rattle.life.proofs.Lives.{unique_parts, unique_erase, same_rest}
@@ -61,17 +57,6 @@ module _ {V : Type 0} {nil : V} {joined : V → V → V} {inverse : V → V} (G 
         joined (total (ps ++ qs)) (share nil weight k l) ≡ total (ps ++ (k, l) ∷ qs)
     total_come [] k l qs = G.comm _ _
     total_come (p ∷ ps) k l qs = G.assoc _ _ _ ∙ ap (joined (share nil weight p.0 p.1)) (total_come ps k l qs)
-
-    -- one pair more of the list that code goes through
-    pub total_next : (xs : List (Key × Life)) (i : ℕ) (d : Key × Life) → i < length xs →
-        joined (total (plain (take i xs))) (share nil weight (key_parts (get_or xs i d).0) (life_parts (get_or xs i d).1)) ≡ total (plain (take (i + 1) xs))
-    total_next xs i d h =
-        let here = plain (take i xs) in
-        let k = key_parts (get_or xs i d).0 in
-        let l = life_parts (get_or xs i d).1 in
-        ap (λ ps. joined (total ps) (share nil weight k l)) (sym (append-nil here))
-        ∙ total_come here k l []
-        ∙ ap total (sym (ap plain (take_more xs i d h) ∙ map-append plain_pair (take i xs) (get_or xs i d ∷ [])))
 
     -- the life of a key altered: its new share, and all others
     total_altered : (k : KeyParts) (f : LifeParts → LifeParts) (ps : Lives) → Unique ps →

@@ -4,6 +4,7 @@ use Rattle.life.specs.declared.life.State.{State}
 use Rattle.life.specs.declared.life.State.TheVariants.{Open, Cancelled}
 use Rattle.life.specs.Parts.{KeyParts, LifeParts}
 use Rattle.life.specs.Lives.{Lives}
+use Rattle.measure.specs.declared.measure.Measure.{Ghosts}
 
 -- the weight w while the life is open, and nothing after
 abbrev pub while_open : {V : Type 0} → V → State → V → V
@@ -18,3 +19,10 @@ share nil weight k l = while_open nil l.in_state (weight k l)
 abbrev pub total_of : {V : Type 0} → V → (V → V → V) → (KeyParts → LifeParts → V) → Lives → V
 total_of nil joined weight [] = nil
 total_of nil joined weight (p ∷ ps) = joined (share nil weight p.0 p.1) (total_of nil joined weight ps)
+
+-- the same in a measure
+abbrev pub share_in : {V : Type 0} → Ghosts V → KeyParts → LifeParts → V
+share_in m = share m.nil m.weight
+
+abbrev pub total_in : {V : Type 0} → Ghosts V → Lives → V
+total_in m = total_of m.nil m.joined m.weight

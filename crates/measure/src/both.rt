@@ -3,7 +3,7 @@ ghost use Rattle.std.specs.Prelude.{◌≡◌};
 ghost use Rattle.measure.specs.Boths.{both, both_joined, both_inverse, both_weight};
 ghost use Rattle.measure.specs.Laws.{both_group};
 ghost use Rattle.life.specs.Lives.{Lives};
-ghost use Rattle.measure.specs.Totals.{total_of};
+ghost use Rattle.measure.specs.Totals.{total_in};
 
 use crate::measure::Measure;
 use life::{Key, Life};
@@ -19,7 +19,7 @@ impl<A: Measure, B: Measure> Both<A, B> {
     pub fn parts(&self) -> (&A, &B)
         ensures one { result.0.now ≡ self.now.first }
         ensures other { result.1.now ≡ self.now.second }
-        ensures totals { (ps : Lives) → self.now ≡ total_of (both A.Measure.nil B.Measure.nil) (both_joined A.Measure.joined B.Measure.joined) (both_weight A.Measure.weight B.Measure.weight) ps → (result.0.now ≡ total_of A.Measure.nil A.Measure.joined A.Measure.weight ps) × (result.1.now ≡ total_of B.Measure.nil B.Measure.joined B.Measure.weight ps) }
+        ensures totals { (ps : Lives) → self.now ≡ total_in ⟦<Both<A, B> as Measure>⟧ ps → (result.0.now ≡ total_in A.Measure ps) × (result.1.now ≡ total_in B.Measure ps) }
     {
         (&self.first, &self.second)
     }

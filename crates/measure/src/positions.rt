@@ -10,11 +10,9 @@ ghost use Rattle.measure.specs.Sheets.{position_of, no_sheet, added, negated, re
 ghost use Rattle.measure.specs.Totals.{total_of};
 
 use crate::measure::Measure;
-use crate::sheet::Sheet;
+use crate::sheet::{CELLS, Sheet};
 use life::{Key, Life};
 use text::{Kind, Side};
-
-const CELLS: usize = 64;
 
 impl Sheet {
     // The position of a contract; 0 for a number over 63. On a sheet that is the total of at most 65,535 lives it is the true sum.
@@ -23,12 +21,9 @@ impl Sheet {
         ensures exact { (ps : Lives) → length ps ≤ 65535 → AllByRecursion Within ps → self.now ≡ total_of no_sheet added sheet_weight ps → result ≡ true_position contract ps }
         ensures kept { (ps : List (Key × Life)) → length ps ≤ 65535 → self.now ≡ total_of no_sheet added sheet_weight (plain ps) → result ≡ true_position contract (plain ps) }
     {
-        let at = contract as usize;
-        if at < CELLS {
-            self.cells[at].cast_signed()
-        } else {
-            0
-        }
+        self.cells
+            .get(usize::from(contract))
+            .map_or(0, |cell| cell.cast_signed())
     }
 
     // Adds `value` to the cell `at`.
@@ -36,8 +31,8 @@ impl Sheet {
         requires { at < 64 }
         ensures { self.new ≡ added self.old (one_cell at value) }
     {
-        let i = at as usize;
-        self.cells[i] = self.cells[i].wrapping_add(value);
+        let cell = &mut self.cells[usize::from(at)];
+        *cell = cell.wrapping_add(value);
     }
 }
 
@@ -57,14 +52,15 @@ impl Measure for Sheet {
     }
 
     fn join(&mut self, other: &Sheet) {
-        for i in 0..CELLS {
-            self.cells[i] = self.cells[i].wrapping_add(other.cells[i]);
+        // Counted: no clause says what the cells hold after a loop over `iter_mut` with `zip`.
+        for (i, cell) in self.cells.iter_mut().enumerate() {
+            *cell = cell.wrapping_add(other.cells[i]);
         }
     }
 
     fn invert(&mut self) {
-        for i in 0..CELLS {
-            self.cells[i] = self.cells[i].wrapping_neg();
+        for cell in self.cells.iter_mut() {
+            *cell = cell.wrapping_neg();
         }
     }
 

@@ -50,17 +50,25 @@ impl Measure for CheckWord {
 
     // Goes on from the word of the id, which the key keeps.
     fn weigh(key: &Key, life: &Life) -> CheckWord {
-        let id = hash_on(key.word, &[0x3B]);
-        let participant = hash_on(id, &key.participant);
-        let venue = hash_on(participant, &key.venue);
         let marks = [kind_mark(key.kind), side_mark(key.side), key.contract];
-        let marked = hash_on(venue, &marks);
-        let quantity = hash_on(marked, &life.quantity.to_le_bytes());
-        let word = hash_on(quantity, &price_bits(life.price).to_le_bytes());
+        let quantity = life.quantity.to_le_bytes();
+        let price = price_bits(life.price).to_le_bytes();
+        let parts: [&[u8]; 6] = [
+            &[0x3B],
+            &key.participant,
+            &key.venue,
+            &marks,
+            &quantity,
+            &price,
+        ];
+        let word = parts
+            .iter()
+            .fold(key.word, |word, part| hash_on(word, part));
         CheckWord { word }
     }
 }
 
+// Functions, not `From`: neither type of such an `impl` would be of this crate.
 fn kind_mark(kind: Kind) -> u8
     ensures { result ≡ kind_byte kind }
 {
@@ -83,8 +91,5 @@ fn side_mark(side: Side) -> u8
 fn price_bits(price: Option<i64>) -> u64
     ensures { result ≡ price_word price }
 {
-    match price {
-        Some(price) => price.cast_unsigned(),
-        None => 0,
-    }
+    price.map_or(0, |price| price.cast_unsigned())
 }

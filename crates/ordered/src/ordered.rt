@@ -1,19 +1,16 @@
 // A store over a lent table, in the order of keys.
-ghost use Rattle.std.specs.Prelude.{◌≡◌, ℕ, ◌≤◌, true, [], length, is_ok, if◌then◌else◌, Some, None};
+ghost use Rattle.std.specs.Prelude.{◌≡◌, [], is_ok, if◌then◌else◌, Some, None};
 ghost use Rattle.life.specs.Faults.{length_refused as refused};
-ghost use Rattle.life.specs.Pairs.{look, erase, added, admits, distinct, Same};
-ghost use Rattle.ordered.specs.Table.{allowed, room_of as room_in, pairs_of as pairs_in, Sound, Puts, Drops};
+ghost use Rattle.life.specs.Pairs.{erase, added, admits, Same};
+ghost use Rattle.ordered.specs.Table.{allowed, room_of as room_in, pairs_of as pairs_in, Puts, Drops};
 
 use crate::entry::Entry;
 use crate::table::{LONGEST, Table};
-use life::{Key, Life, NoRoom, Store, TableFault};
+use life::{Key, Life, NoRoom, Store, TableFault, check_length};
 
 #[derive(Drop)]
 pub struct Ordered<'t> {
     table: Table<'t>,
-    ghost ok: { ∥ Sound table.entries.now table.count ∥₁ },
-    ghost apart: { distinct (pairs_in table.entries.now table.count) ≡ true },
-    ghost fits: { length (pairs_in table.entries.now table.count) ≤ room_in table.entries.now },
 }
 
 impl<'t> Ordered<'t> {
@@ -21,10 +18,7 @@ impl<'t> Ordered<'t> {
     pub fn check(n: usize) -> Result<(), TableFault>
         ensures { refused result ≡ (if allowed n then None else Some 72) }
     {
-        if n < 1 || n > LONGEST {
-            return Err(TableFault::Length);
-        }
-        Ok(())
+        check_length::<LONGEST>(n)
     }
 
     // An empty store over the table, whatever it held. It writes nothing yet; a table whose length is not allowed has no room.
@@ -32,9 +26,9 @@ impl<'t> Ordered<'t> {
         ensures none { pairs_in result.table.entries.now result.table.count ≡ [] }
         ensures same { result.table.entries.now ≡ entries.old }
     {
-        let mut table = Table { entries, count: 0 };
-        table.empty();
-        Ordered { table }
+        Ordered {
+            table: Table::new(entries),
+        }
     }
 }
 
@@ -43,9 +37,9 @@ impl<'t> Store for Ordered<'t> {
 
     ghost room = { λ s. room_in s.table.entries.now };
 
-    ghost unique = { λ s. s.apart };
+    ghost unique = { λ s. s.table.apart };
 
-    ghost within = { λ s. s.fits };
+    ghost within = { λ s. s.table.fits };
 
     fn capacity(&self) -> usize {
         self.table.room()

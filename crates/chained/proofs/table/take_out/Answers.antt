@@ -1,38 +1,50 @@
-use Rattle.std.proofs.Common.{◌<◌, length, sym, ap, ◌∙◌, arith, rules}
-use Rattle.chained.proofs.Links.{paired_to}
+use Rattle.std.proofs.Common.{◌<◌, length, sym, ap, ◌∙◌, arith}
+use Rattle.chained.specs.declared.slot.Slot.{Slot}
 use Rattle.chained.specs.Table.{chain_of, chain_at}
+use Rattle.chained.proofs.Facts.{at_read}
+use Rattle.chained.proofs.Links.{paired_to}
 use Rattle.chained.proofs.Moves.{last_sound, last_becomes, k3, taken_sound, taken_becomes}
 use Rattle.chained.proofs.table.take_out.Goals as goal
 
 pub returns-then-i-count : goal.returns-then-i-count
 returns-then-i-count c =
-    let k = c.unlink.ensures.linked (chain_at c.args.slots.now) c.requires.sound.linked (sym (c.chain-b.ensures.is ∙ ap (λ k. chain_of k (length c.args.slots.now)) c.key_of-gone.ensures)) in
+    let s = c.args.slots.now in
+    let e = c.unlink.ensures in
+    let k = e.linked (chain_at s) c.requires.sound.linked (sym (c.chain-b.ensures.is ∙ ap (λ (x : Slot). chain_of x.key (length s)) (at_read s _ _ (omega (arith, c.requires.sound.fits))))) in
     record {
-      spare = record { keys = λ m _. c.unlink.ensures.kept.keys m; lives = λ m _. c.unlink.ensures.kept.lives m };
-      sound = last_sound _ _ _ _ c.requires.sound c.requires.low c.if-i-count.true c.unlink.ensures.kept k;
-      gone = last_becomes _ _ _ _ c.requires.sound c.requires.low c.if-i-count.true c.unlink.ensures.kept k;
+      spare = record { keys = λ m _. e.kept.keys m; lives = λ m _. e.kept.lives m };
+      sound = last_sound _ _ _ _ c.requires.sound c.requires.low c.if-i-count.true e.kept k;
+      gone = last_becomes _ _ _ _ c.requires.sound c.requires.low c.if-i-count.true e.kept k;
     }
 
-pub link_in-requires : goal.link_in-requires
-link_in-requires c =
-    let k = c.unlink.ensures.linked (chain_at c.args.slots.now) c.requires.sound.linked (sym (c.chain-b.ensures.is ∙ ap (λ k. chain_of k (length c.args.slots.now)) c.key_of-gone.ensures)) in
+pub link_in-requires-clause-chains : goal.link_in-requires-clause-chains
+link_in-requires-clause-chains c =
+    let s = c.args.slots.now in
+    let e = c.unlink.ensures in
+    let k = e.linked (chain_at s) c.requires.sound.linked (sym (c.chain-b.ensures.is ∙ ap (λ (x : Slot). chain_of x.key (length s)) (at_read s _ _ (omega (arith, c.requires.sound.fits))))) in
+    let last = c.index-slots-count.is ∙ at_read c.unlink.new.slots _ _ (omega (arith, c.requires.sound.fits, e.kept.size)) in
+    let chain = c.chain-d.ensures.is ∙ ap (λ (x : Slot). chain_of x.key (length s)) last in
+    let pair = paired_to c.set_pair.ensures (ap (λ (x : Slot). x.key) last) (ap (λ (x : Slot). x.life) last) in
     let less : c.args.i < c.args.count = omega arith in
-    record {
-      chains = (_, k3 _ _ _ _ _ _ c.requires.sound c.requires.low less c.unlink.ensures.kept (c.chain-d.ensures.is ∙ ap (λ k. chain_of k (length c.args.slots.now)) c.key_of-key.ensures) k c.unlink-2.ensures.kept c.unlink-2.ensures.linked _ (paired_to c.set_pair.ensures c.key_of-key.ensures c.life_of-life.ensures));
-      fits = search rules;
-      chain = search rules;
-      slot = search rules;
-    }
+    let more = c.unlink-2.ensures in
+    (_, k3 _ _ _ _ _ _ c.requires.sound c.requires.low less e.kept chain k more.kept more.linked _ pair)
 
 pub returns : goal.returns
 returns c =
-    let k = c.unlink.ensures.linked (chain_at c.args.slots.now) c.requires.sound.linked (sym (c.chain-b.ensures.is ∙ ap (λ k. chain_of k (length c.args.slots.now)) c.key_of-gone.ensures)) in
+    let s = c.args.slots.now in
+    let e = c.unlink.ensures in
+    let k = e.linked (chain_at s) c.requires.sound.linked (sym (c.chain-b.ensures.is ∙ ap (λ (x : Slot). chain_of x.key (length s)) (at_read s _ _ (omega (arith, c.requires.sound.fits))))) in
+    let last = c.index-slots-count.is ∙ at_read c.unlink.new.slots _ _ (omega (arith, c.requires.sound.fits, e.kept.size)) in
+    let chain = c.chain-d.ensures.is ∙ ap (λ (x : Slot). chain_of x.key (length s)) last in
+    let pair = paired_to c.set_pair.ensures (ap (λ (x : Slot). x.key) last) (ap (λ (x : Slot). x.life) last) in
     let less : c.args.i < c.args.count = omega arith in
+    let more = c.unlink-2.ensures in
+    let into = c.link_in.ensures in
     record {
       spare = record {
-        keys = λ m f. c.link_in.ensures.kept.keys m ∙ c.set_pair.ensures.key_else m (λ e. omega (arith, f (omega arith))) ∙ c.unlink-2.ensures.kept.keys m ∙ c.unlink.ensures.kept.keys m;
-        lives = λ m f. c.link_in.ensures.kept.lives m ∙ c.set_pair.ensures.life_else m (λ e. omega (arith, f (omega arith))) ∙ c.unlink-2.ensures.kept.lives m ∙ c.unlink.ensures.kept.lives m;
+        keys = λ m f. into.kept.keys m ∙ pair.key_else m (λ q. omega (arith, f (omega arith))) ∙ more.kept.keys m ∙ e.kept.keys m;
+        lives = λ m f. into.kept.lives m ∙ pair.life_else m (λ q. omega (arith, f (omega arith))) ∙ more.kept.lives m ∙ e.kept.lives m;
       };
-      sound = taken_sound _ _ _ _ _ _ c.requires.sound c.requires.low less c.unlink.ensures.kept (c.chain-d.ensures.is ∙ ap (λ k. chain_of k (length c.args.slots.now)) c.key_of-key.ensures) k c.unlink-2.ensures.kept c.unlink-2.ensures.linked _ (paired_to c.set_pair.ensures c.key_of-key.ensures c.life_of-life.ensures) _ c.link_in.ensures.kept c.link_in.ensures.linked;
-      gone = taken_becomes _ _ _ _ _ _ c.requires.sound c.requires.low less c.unlink.ensures.kept (c.chain-d.ensures.is ∙ ap (λ k. chain_of k (length c.args.slots.now)) c.key_of-key.ensures) k c.unlink-2.ensures.kept c.unlink-2.ensures.linked _ (paired_to c.set_pair.ensures c.key_of-key.ensures c.life_of-life.ensures) _ c.link_in.ensures.kept c.link_in.ensures.linked;
+      sound = taken_sound _ _ _ _ _ _ c.requires.sound c.requires.low less e.kept chain k more.kept more.linked _ pair _ into.kept into.linked;
+      gone = taken_becomes _ _ _ _ _ _ c.requires.sound c.requires.low less e.kept chain k more.kept more.linked _ pair _ into.kept into.linked;
     }

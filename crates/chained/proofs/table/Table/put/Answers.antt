@@ -2,24 +2,25 @@ use Rattle.std.proofs.Common.{◌<◌, ◌≤◌, length, is_some, sym, refl, ap
 use Rattle.std.proofs.lemmas.Bool.{true≢false, or_left, or_right, or_from, lt-ltb, le-ltb, leb-true, leb-false}
 use Rattle.life.specs.Pairs.{look}
 use Rattle.life.proofs.Lookups.{look_put}
-use Rattle.chained.specs.Table.{pairs_of, room_of, Sound}
-use Rattle.chained.proofs.Facts.{opened, held, whole, sound_in, sound_with, room_small, room_to, lookup_none, pairs_length}
+use Rattle.chained.specs.Table.{pairs_of, room_of}
+use Rattle.chained.proofs.Facts.{opened, held, whole, sound_at, sound_with, room_to, lookup_none, pairs_length}
 use Rattle.chained.proofs.Chains.{lookup_some}
 use Rattle.chained.proofs.Moves.{held_sound, held_becomes}
 use Rattle.chained.proofs.table.Table.put.Goals as goal
 
-pub set_pair-requires : goal.set_pair-requires
-set_pair-requires c =
-    let o = c.place_of-i.ensures in
-    let t = c.if-i-gt0.true in
-    let h = sound_in _ _ (opened c.requires) (omega (arith, o.within)) in
-    omega (arith, h.fits, o.within)
+pub invariant_of-self : goal.invariant_of-self
+invariant_of-self c =
+    let t = c.in-Some.ensures.0 in
+    let o = c.in-Some.ensures.1 in
+    let h = sound_at _ _ _ _ (opened c.args.self.now.ok) c.in-Some.ensures in
+    let then = held (whole _ _ (held_sound _ _ _ _ _ _ h t o.within (o.held t) c.set_pair.ensures)) in
+    record { ok = then.in_chains; apart = then.apart; fits = then.within }
 
-pub returns-then-i-gt0 : goal.returns-then-i-gt0
-returns-then-i-gt0 c =
-    let o = c.place_of-i.ensures in
-    let t = c.if-i-gt0.true in
-    let h = sound_in _ _ (opened c.requires) (omega (arith, o.within)) in
+pub returns-in-Some : goal.returns-in-Some
+returns-in-Some c =
+    let t = c.in-Some.ensures.0 in
+    let o = c.in-Some.ensures.1 in
+    let h = sound_at _ _ _ _ (opened c.args.self.now.ok) c.in-Some.ensures in
     record {
       held = held (whole _ _ (held_sound _ _ _ _ _ _ h t o.within (o.held t) c.set_pair.ensures));
       room = room_to _ _ c.set_pair.ensures.size;
@@ -37,25 +38,26 @@ returns-then-i-gt0 c =
 
 pub returns-then-is_full : goal.returns-then-is_full
 returns-then-is_full c =
-    let o = c.place_of-i.ensures in
     let s = c.args.self.now.slots.now in
     let n = c.args.self.now.count in
     let full : room_of s ≤ n = leb-true (room_of s) n (sym c.if-is_full.ensures) in
     record {
-      held = held (opened c.requires);
+      held = held (opened c.args.self.now.ok);
       room = refl;
-      fits = sym (or_from _ _ (ap is_some (lookup_none _ _ _ (o.missed (omega arith)))) (le-ltb (length (pairs_of s n)) (room_of s) (omega (arith, pairs_length s n))));
+      fits = sym (or_from _ _ (ap is_some (lookup_none _ _ _ (c.in_default.ensures.missed refl))) (le-ltb (length (pairs_of s n)) (room_of s) (omega (arith, pairs_length s n))));
       holds = λ q. refl;
       leaves = record { size = refl; spare = record { keys = λ m _. refl; lives = λ m _. refl }; unwritten = λ _. (refl, refl) };
     }
 
-pub add-requires : goal.add-requires
-add-requires c =
+pub add-requires-clause-sound : goal.add-requires-clause-sound
+add-requires-clause-sound c =
     let s = c.args.self.now.slots.now in
-    let n = c.args.self.now.count in
-    let free : n < room_of s = leb-false (room_of s) n (sym c.if-is_full.ensures) in
-    let h : Sound s n = sound_with s n (opened c.requires) free in
-    record { sound = h; room = omega (arith, room_small s h.small); fresh = c.place_of-i.ensures.missed (omega arith) }
+    sound_with _ _ (opened c.args.self.now.ok) (leb-false (room_of s) _ (sym c.if-is_full.ensures))
+
+pub invariant_of-self-2 : goal.invariant_of-self-2
+invariant_of-self-2 c =
+    let then = held (whole _ _ c.add.ensures.sound) in
+    record { ok = then.in_chains; apart = then.apart; fits = then.within }
 
 pub returns : goal.returns
 returns c =

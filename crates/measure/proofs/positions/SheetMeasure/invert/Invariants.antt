@@ -1,7 +1,9 @@
-use Rattle.std.proofs.Common.{◌≡◌, ℕ, ◌-◌, ◌%◌, ◌^◌, ◌<◌, ◌≤◌, get_or}
+use Rattle.std.proofs.Common.{◌≡◌, ℕ, ◌-◌, ◌%◌, ◌^◌, ◌<◌, ◌≤◌, get_or, length}
 use Rattle.measure.proofs.positions.SheetMeasure.invert.Given as goal
 
-abbrev pub invariant-loop-i : goal.invariant-loop-i
-invariant-loop-i l =
-    ((n : ℕ) → n < l.i → get_or l.self.cells n 0 ≡ (2 ^ 64 - get_or l.initial.self.cells n 0) % 2 ^ 64)
-    × ((n : ℕ) → l.i ≤ n → get_or l.self.cells n 0 ≡ get_or l.initial.self.cells n 0)
+abbrev pub invariant-loop-cell : goal.invariant-loop-cell
+invariant-loop-cell l =
+    (length l.cell-items ≡ 64)
+    × ((n : ℕ) → get_or l.cell-items n 0 < 2 ^ 64)
+    × ((n : ℕ) → n < l.cell-index → get_or l.cell-items n 0 ≡ (2 ^ 64 - get_or l.initial.cell-items n 0) % 2 ^ 64)
+    × ((n : ℕ) → l.cell-index ≤ n → get_or l.cell-items n 0 ≡ get_or l.initial.cell-items n 0)

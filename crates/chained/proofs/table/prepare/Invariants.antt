@@ -1,10 +1,10 @@
 use Rattle.std.proofs.Common.{◌≡◌, ℕ, ◌<◌}
 use Rattle.chained.specs.Table.{at}
-use Rattle.chained.proofs.table.wipe.Given as goal
+use Rattle.chained.proofs.table.prepare.Given as goal
 
-abbrev pub invariant-loop-i : goal.invariant-loop-i
-invariant-loop-i l =
-    ((m : ℕ) → m < l.i → (at l.slots m).head ≡ 0)
+abbrev pub invariant-loop-slot : goal.invariant-loop-slot
+invariant-loop-slot l =
+    ((m : ℕ) → m < l.slot-index → (at l.slots m).head ≡ 0)
     × ((m : ℕ) → (at l.slots m).next ≡ (at l.initial.slots m).next)
     × ((m : ℕ) → (at l.slots m).key ≡ (at l.initial.slots m).key)
     × ((m : ℕ) → (at l.slots m).life ≡ (at l.initial.slots m).life)
