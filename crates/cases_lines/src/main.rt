@@ -4,7 +4,7 @@
 use line::{ReadFault, Report, read_line};
 use std::io;
 use std::io::{Read, Write};
-use text::{Action, Kind, Names, Side, rest_after, span_to};
+use text::{Action, Kind, Names, Side};
 
 fn kind_word(kind: Kind) -> &'static [u8] {
     match kind {
@@ -73,14 +73,11 @@ fn write_fault(rt: &HostRuntime, fault: ReadFault) -> io::Result<()> {
 fn main(rt: HostRuntime) -> io::Result<()> {
     let mut input = Vec::new(rt.alloc());
     rt.stdin().read_to_end(&mut input)?;
-    let mut rest = input.as_slice();
-    while !rest.is_empty() {
-        let end = span_to(rest, b'\n');
-        match read_line(&rest[0..end]) {
+    for line in input.split_inclusive(|b| *b == b'\n') {
+        match read_line(line.strip_suffix(b"\n").unwrap_or(line)) {
             Ok(report) => write_report(&rt, &report)?,
             Err(fault) => write_fault(&rt, fault)?,
         }
-        rest = rest_after(rest, end);
     }
     Ok(())
 }

@@ -7,7 +7,6 @@ use line::{field_offset, read_line};
 use std::alloc::{AllocError, Global};
 use std::io::Read;
 use std::{fmt, io};
-use text::{rest_after, span_to};
 
 // Bytes, printed as characters.
 #[derive(Clone, Copy)]
@@ -41,17 +40,12 @@ enum Command<'a> {
 }
 
 fn command_of<'a>(line: &'a [u8]) -> Command<'a> {
-    if line.len() == 1 && line[0] == b'N' {
-        return Command::Again;
-    }
-    if line.len() < 2 || line[1] != b';' {
-        return Command::Heading;
-    }
-    match line[0] {
-        b'K' => Command::Contract(&line[2..]),
-        b'R' => Command::Entity(&line[2..]),
-        b'F' => Command::Name(&line[2..]),
-        b'P' => Command::Line(&line[2..]),
+    match line {
+        [b'N'] => Command::Again,
+        [b'K', b';', text @ ..] => Command::Contract(text),
+        [b'R', b';', code @ ..] => Command::Entity(code),
+        [b'F', b';', name @ ..] => Command::Name(name),
+        [b'P', b';', report @ ..] => Command::Line(report),
         _ => Command::Heading,
     }
 }
@@ -138,10 +132,8 @@ fn main(rt: HostRuntime) -> io::Result<()> {
     let mut input = Vec::new(rt.alloc());
     rt.stdin().read_to_end(&mut input)?;
     let mut lists = Lists::new(rt.alloc())?;
-    let mut rest = input.as_slice();
-    while !rest.is_empty() {
-        let end = span_to(rest, b'\n');
-        let line = &rest[0..end];
+    for line in input.split_inclusive(|b| *b == b'\n') {
+        let line = line.strip_suffix(b"\n").unwrap_or(line);
         match command_of(line) {
             Command::Again => lists = Lists::new(rt.alloc())?,
             Command::Contract(text) => lists.add_contract(rt, text)?,
@@ -153,7 +145,6 @@ fn main(rt: HostRuntime) -> io::Result<()> {
                 println!(rt; "{heading}")?;
             }
         }
-        rest = rest_after(rest, end);
     }
     Ok(())
 }

@@ -2,7 +2,7 @@
 use crate::held::HeldContract;
 use std::marker::Model;
 
-// Contracts and proofs see the list of what the contracts say.
+// Clauses and proofs see it as the list of what its contracts say.
 #[derive(Drop)]
 pub struct ContractList {
     pub(crate) contracts: Vec<HeldContract>,

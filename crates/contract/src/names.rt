@@ -28,8 +28,7 @@ impl NameList {
     pub(crate) fn as_slice(&self) -> &[Text<32>]
         ensures { result.now ≡ take self.now.count self.now.texts }
     {
-        let all = &self.texts[..];
-        &all[0..self.count as usize]
+        &self.texts[..self.count as usize]
     }
 }
 

@@ -136,6 +136,7 @@ impl<'a> Reader<'a> {
         ensures place { self.new.place ≡ past self.old.place self.old.line.now result }
         ensures line { self.new.line.now ≡ self.old.line.now }
     {
+        // the path `F::said_by` in place of the closure gets no proof
         self.field(|text| F::said_by(text))
     }
 

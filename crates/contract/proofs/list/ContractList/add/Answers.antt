@@ -1,4 +1,4 @@
-use Rattle.std.proofs.Common.{[], ◌∷◌, ◌++◌, length, map, ap, ◌∙◌, arith}
+use Rattle.std.proofs.Common.{[], ◌∷◌, ◌++◌, length, map, ap, ◌∙◌, arith, rules}
 use Rattle.std.proofs.lemmas.List.{map-append, length-map}
 use Rattle.contract.specs.Held.{contract_of}
 use Rattle.contract.proofs.Tables.{by_text, by_list, by_none}
@@ -6,7 +6,7 @@ use Rattle.contract.proofs.list.ContractList.add.Goals as goal
 
 pub returns-in_err-contract : goal.returns-in_err-contract
 returns-in_err-contract c =
-    let a = by_text c.args.self.now c.args.text.now _ _ c.from_residual.ensures.1 c.in_err-contract.ensures in
+    let a = by_text c.args.self.now c.args.text.now _ _ c.from_residual.ensures.1 (search rules) in
     record { told = a.0; list = a.1 }
 
 pub returns-in_err-check : goal.returns-in_err-check
