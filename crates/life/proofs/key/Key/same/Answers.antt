@@ -6,7 +6,7 @@ use Rattle.life.proofs.key.Key.same.Goals as goal
 
 pub returns-then-self-other : goal.returns-then-self-other
 unfolding alike
-returns-then-self-other c = c.eq.ensures ∙ eq_is c.args.self.now c.args.other.now
+returns-then-self-other c = let e = eq_is c.args.self.now c.args.other.now in cc
 
 pub returns-else-self-other : goal.returns-else-self-other
 returns-else-self-other c =
