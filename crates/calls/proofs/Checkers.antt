@@ -1,4 +1,5 @@
 -- A step of what a checker holds continues every history that led to it.
+use Rattle.measure.specs.declared.measure.Measure.{Ghosts}
 use Rattle.std.proofs.Common.{◌≡◌, Bool, true, false, IfOk, IfErr, Ok, Err, Result, sym, subst, MatchResult}
 use Rattle.std.specs.declared.alloc.AllocError.{AllocError}
 use Rattle.life.specs.Parts.{KeyParts, LifeParts}
@@ -11,16 +12,16 @@ use Rattle.calls.specs.Said.{answer_said}
 use Rattle.calls.specs.Steps.{Step}
 use Rattle.calls.proofs.Histories.{more}
 
-module _ {S M : Type 0} {nil : M} {joined : M → M → M} {inverse : M → M} (laws : Group nil joined inverse) (weight : KeyParts → LifeParts → M) where
+module _ {S M : Type 0} (weighing : Ghosts M) where
   pub continues : (was is : Checker S M) (c : Call) (a : Answer) →
-      Step nil joined weight (book_in was) was.register.total c a (book_in is) is.register.total → Continues nil joined weight was c a is
+      Step weighing (book_in was) was.register.total c a (book_in is) is.register.total → Continues weighing was c a is
   continues was is c a s capacity past f =
-      more laws weight capacity past c (book_in was) (book_in is) was.register.total is.register.total a
+      more weighing capacity past c (book_in was) (book_in is) was.register.total is.register.total a
       was.register.unique is.register.unique s f
 
   -- naming a file, where want of memory is no answer
   pub named_so : (was is : Checker S M) (c : Call) (had : Bool) (a : Answer) (r : Result Spoken AllocError) →
-      MatchResult r (λ x. (had ≡ true) × (answer_said x ≡ a)) (λ _. had ≡ false) → (had ≡ true → Continues nil joined weight was c a is) → (had ≡ false → Stays nil joined weight was is) →
-      IfOk r (λ x. Continues nil joined weight was c (answer_said x) is) × IfErr r (λ _. Stays nil joined weight was is)
-  named_so was is c had a (Ok x) e goes stays = (subst (λ y. Continues nil joined weight was c y is) (sym e.1) (goes e.0), tt)
+      MatchResult r (λ x. (had ≡ true) × (answer_said x ≡ a)) (λ _. had ≡ false) → (had ≡ true → Continues weighing was c a is) → (had ≡ false → Stays weighing was is) →
+      IfOk r (λ x. Continues weighing was c (answer_said x) is) × IfErr r (λ _. Stays weighing was is)
+  named_so was is c had a (Ok x) e goes stays = (subst (λ y. Continues weighing was c y is) (sym e.1) (goes e.0), tt)
   named_so was is c had a (Err x) e goes stays = (tt, stays e)

@@ -1,4 +1,5 @@
 -- One step of the book that is held is one call more of its history.
+use Rattle.measure.specs.declared.measure.Measure.{Ghosts}
 use Rattle.std.proofs.Common.{◌≡◌, ℕ, cond, List, [], ◌∷◌, ◌++◌, ℤ, Some, None, Option, sym, refl, ap, ◌∙◌, subst}
 use Rattle.text.specs.declared.words.Action.{Action}
 use Rattle.text.specs.declared.words.Action.TheVariants.{New, Modify, Error, Cancel}
@@ -111,18 +112,18 @@ agreed_answer c b d t = by (verdict b c) ∙ ap (answered d c) (agreed_verdict c
 
 -- ---- One call more
 
-module _ {V : Type 0} {nil : V} {joined : V → V → V} {inverse : V → V} (laws : Group nil joined inverse) (weight : KeyParts → LifeParts → V) where
+module _ {V : Type 0} (weighing : Ghosts V) where
   -- the total of what is held is the book's
-  pub held_total : (here book : Book) → Unique here.lives → Unique book.lives → Agrees here book → book_total nil joined weight here ≡ book_total nil joined weight book
-  held_total here book u w t = total_same laws weight here.lives book.lives u w t.same_lives
+  pub held_total : (here book : Book) → Unique here.lives → Unique book.lives → Agrees here book → book_total weighing here ≡ book_total weighing book
+  held_total here book u w t = total_same weighing.laws weighing.weight here.lives book.lives u w t.same_lives
 
   pub more : (capacity : ℕ) (past : List Call) (c : Call) (was is : Book) (old new : V) (a : Answer) → Unique was.lives → Unique is.lives →
-      Step nil joined weight was old c a is new → Follows nil joined weight capacity past was old →
-      (a ≡ answer (book_after capacity past) c) × Follows nil joined weight capacity (past ++ c ∷ []) is new
+      Step weighing was old c a is new → Follows weighing capacity past was old →
+      (a ≡ answer (book_after capacity past) c) × Follows weighing capacity (past ++ c ∷ []) is new
   more capacity past c was is old new a u w s f =
       let book : Book = book_after capacity past in
       let tidy : Tidy capacity book = tidy_law capacity past in
-      let sound : old ≡ book_total nil joined weight was = f.sums ∙ sym (held_total was book u tidy.no_key_twice f.holds) in
+      let sound : old ≡ book_total weighing was = f.sums ∙ sym (held_total was book u tidy.no_key_twice f.holds) in
       let next : book_after capacity (past ++ c ∷ []) ≡ after book c = end_append past (c ∷ []) (empty_book capacity) in
       let along : Alongside (after was c) (after book c) = agreed_after c was book f.holds in
       let then-tidy : Tidy capacity (book_after capacity (past ++ c ∷ [])) = tidy_law capacity (past ++ c ∷ []) in

@@ -1,4 +1,5 @@
 -- Judging a line, from its file over its text and contract to its life, is the book's table of judging.
+use Rattle.measure.specs.declared.measure.Measure.{Ghosts}
 use Rattle.std.proofs.Common.{◌≡◌, ℕ, Bool, cond, ◌&&◌, leb, List, [], ◌∷◌, length, set, is_some, is_ok, IsErrAnd, Some, None, Ok, Err, Option, Result, sym, refl, ap, ◌∙◌, subst, arith}
 use Rattle.std.proofs.lemmas.Result.{err_from_is_err_and}
 use Rattle.text.specs.declared.words.Kind.{Kind}
@@ -68,9 +69,9 @@ abbrev pub acted_result : Kind → Bytes → Result (Unit {0}) ActFault → Resu
 acted_result kind bs (Ok u) = Ok u
 acted_result kind bs (Err e) = Err (fault.Act e kind (start (act_field e) (fields bs)))
 
-module _ {V : Type 0} (nil : V) (joined : V → V → V) (weight : KeyParts → LifeParts → V) where
+module _ {V : Type 0} (weighing : Ghosts V) where
   -- a refused line changes nothing
-  line_refused : (was : Book) (t : V) (n : ℕ) (bs : Bytes) (r : ℕ × ℕ) → verdict was (Judge n bs) ≡ Some r → Tried nil joined weight was t n bs (Refused r.0 r.1 (start r.1 (fields bs))) was t
+  line_refused : (was : Book) (t : V) (n : ℕ) (bs : Bytes) (r : ℕ × ℕ) → verdict was (Judge n bs) ≡ Some r → Tried weighing was t n bs (Refused r.0 r.1 (start r.1 (fields bs))) was t
   line_refused was t n bs r e = record {
     says = ap (answered was (Judge n bs)) (sym e);
     keeps_capacity = refl;
@@ -82,18 +83,18 @@ module _ {V : Type 0} (nil : V) (joined : V → V → V) (weight : KeyParts → 
   }
 
   file_refuses : (was : Book) (t : V) (n : ℕ) (bs : Bytes) (x : TakeFault) → take_refusal {V = Unit {0}} (Err x) ≡ first_fit taking_rows (file_of was.files n) →
-      Tried nil joined weight was t n bs (judge_answer (Err (fault.File x))) was t
+      Tried weighing was t n bs (judge_answer (Err (fault.File x))) was t
   file_refuses was t n bs x e =
       line_refused was t n bs (take_number x, 0) (line_verdict was n bs ∙ ap (λ o. or_else o (or_else (first_fit looking_rows (bs, told_by was.contracts bs)) (by_lives was (told_by was.contracts bs)))) (sym e))
 
   line_refuses : (was : Book) (t : V) (n : ℕ) (bs : Bytes) (x : LineFault) → None ≡ first_fit taking_rows (file_of was.files n) → claim_in (Err x) ≡ claiming was.contracts bs →
-      Tried nil joined weight was t n bs (judge_answer (Err (fault.Line x))) was t
+      Tried weighing was t n bs (judge_answer (Err (fault.Line x))) was t
   line_refuses was t n bs x free e =
       let y : Told = told_by was.contracts bs in
       let why = no_claim bs (claimed_by y) x (first_fit looking_rows (bs, y)) e in
       let v : verdict was (Judge n bs) ≡ Some (line_fault_number x, line_fault_field x) =
       line_verdict was n bs ∙ ap (λ o. or_else o (or_else (first_fit looking_rows (bs, y)) (by_lives was y))) (sym free) ∙ ap (λ o. or_else o (by_lives was y)) why.0 in
-      subst (λ a. Tried nil joined weight was t n bs a was t) (sym why.1) (line_refused was t n bs (line_fault_number x, line_fault_field x) v)
+      subst (λ a. Tried weighing was t n bs a was t) (sym why.1) (line_refused was t n bs (line_fault_number x, line_fault_field x) v)
 
   -- the lives decide
   acted_so : (was : Book) (n : ℕ) (bs : Bytes) (kind : Kind) (r : Result (Unit {0}) ActFault) (v : Option (ℕ × ℕ)) → verdict was (Judge n bs) ≡ v → refused_by r ≡ v →
@@ -112,8 +113,8 @@ module _ {V : Type 0} (nil : V) (joined : V → V → V) (weight : KeyParts → 
       is.entities ≡ was.entities → is.contracts ≡ was.contracts → is.files ≡ was.files → is.capacity ≡ was.capacity →
       refused_by r ≡ refusal was.capacity (key_parts c.key) c.action (life_parts c.told) was.lives →
       Same is.lives (lives_after (refusal was.capacity (key_parts c.key) c.action (life_parts c.told) was.lives) (key_parts c.key) c.action (life_parts c.told) was.lives) →
-      (t ≡ book_total nil joined weight was → s ≡ book_total nil joined weight is) →
-      Tried nil joined weight was t n bs (judge_answer (acted_result kind bs r)) is s
+      (t ≡ book_total weighing was → s ≡ book_total weighing is) →
+      Tried weighing was t n bs (judge_answer (acted_result kind bs r)) is s
   lives_decide was is t s n bs c kind r free e entities contracts files size answers holds sums =
       let y : Told = told_by was.contracts bs in
       let claim = a_claim bs (claimed_by y) c (first_fit looking_rows (bs, y)) e in
@@ -145,8 +146,8 @@ module _ {V : Type 0} (nil : V) (joined : V → V → V) (weight : KeyParts → 
   counted_so was n bs (Err x) (Some y) e a = refl
 
   pub counted_step : (was mid : Book) (t s : V) (n : ℕ) (bs : Bytes) (r : Result (Unit {0}) JudgeFault) (ok : Bool) (fs : List File) →
-      Tried nil joined weight was t n bs (judge_answer r) mid s → ok ≡ is_ok r → fs ≡ set mid.files n (counted ok (file_of mid.files n)) →
-      Step nil joined weight was t (Judge n bs) (judge_answer r) (with_files mid fs) s
+      Tried weighing was t n bs (judge_answer r) mid s → ok ≡ is_ok r → fs ≡ set mid.files n (counted ok (file_of mid.files n)) →
+      Step weighing was t (Judge n bs) (judge_answer r) (with_files mid fs) s
   counted_step was mid t s n bs r ok fs h o l = record {
     says = h.says;
     keeps_capacity = h.keeps_capacity;
@@ -171,13 +172,13 @@ module _ {V : Type 0} (nil : V) (joined : V → V → V) (weight : KeyParts → 
 
   -- a refusal that `?` hands on
   pub file_refused : (was : Book) (t : V) (n : ℕ) (bs : Bytes) (r : Result (Unit {0}) JudgeFault) (x : TakeFault) → IsErrAnd r (λ y. y ≡ fault.File x) → take_refusal {V = Unit {0}} (Err x) ≡ first_fit taking_rows (file_of was.files n) →
-      Tried nil joined weight was t n bs (judge_answer r) was t
+      Tried weighing was t n bs (judge_answer r) was t
   file_refused was t n bs r x h e =
       let p = err_from_is_err_and r h in
-      subst (λ y. Tried nil joined weight was t n bs (judge_answer y) was t) (sym (p.1 ∙ ap Err p.2)) (file_refuses was t n bs x e)
+      subst (λ y. Tried weighing was t n bs (judge_answer y) was t) (sym (p.1 ∙ ap Err p.2)) (file_refuses was t n bs x e)
 
   pub text_refused : (was : Book) (t : V) (n : ℕ) (bs : Bytes) (r : Result (Unit {0}) JudgeFault) (x : LineFault) → IsErrAnd r (λ y. y ≡ fault.Line x) → None ≡ first_fit taking_rows (file_of was.files n) → claim_in (Err x) ≡ claiming was.contracts bs →
-      Tried nil joined weight was t n bs (judge_answer r) was t
+      Tried weighing was t n bs (judge_answer r) was t
   text_refused was t n bs r x h free e =
       let p = err_from_is_err_and r h in
-      subst (λ y. Tried nil joined weight was t n bs (judge_answer y) was t) (sym (p.1 ∙ ap Err p.2)) (line_refuses was t n bs x free e)
+      subst (λ y. Tried weighing was t n bs (judge_answer y) was t) (sym (p.1 ∙ ap Err p.2)) (line_refuses was t n bs x free e)

@@ -1,4 +1,5 @@
 -- What the code did at one call is one step of the book that is held.
+use Rattle.measure.specs.declared.measure.Measure.{Ghosts}
 use Rattle.std.proofs.Common.{◌≡◌, ℕ, Bool, true, false, cond, List, [], is_some, IfOk, Some, None, Ok, Err, Option, Result, sym, refl, ap, ◌∙◌, arith}
 use Rattle.text.specs.Bytes.{Bytes, start}
 use Rattle.text.specs.Rows.{first_fit, fields, settled_by}
@@ -41,9 +42,9 @@ Finds b (Ok c) (Err y) = ⊥
 Finds b (Err x) (Ok o) = ⊥
 Finds b (Err x) (Err y) = y ≡ x
 
-module _ {V : Type 0} (nil : V) (joined : V → V → V) (weight : KeyParts → LifeParts → V) where
+module _ {V : Type 0} (weighing : Ghosts V) where
   -- a call that is answered as the book answers it, and leaves just what the book is then
-  exactly : (was is : Book) (t : V) (c : Call) (a : Answer) → a ≡ answer was c → is ≡ after was c → is.capacity ≡ was.capacity → is.lives ≡ was.lives → Step nil joined weight was t c a is t
+  exactly : (was is : Book) (t : V) (c : Call) (a : Answer) → a ≡ answer was c → is ≡ after was c → is.capacity ≡ was.capacity → is.lives ≡ was.lives → Step weighing was t c a is t
   exactly was is t c a says makes size lives = record {
     says = says;
     keeps_capacity = size;
@@ -51,7 +52,7 @@ module _ {V : Type 0} (nil : V) (joined : V → V → V) (weight : KeyParts → 
     makes_contracts = ap (λ b. b.contracts) makes;
     makes_files = ap (λ b. b.files) makes;
     makes_lives = λ j. ap (λ b. look j b.lives) makes;
-    keeps_sum = λ e. e ∙ sym (ap (λ ls. book_total nil joined weight (record { capacity = was.capacity; entities = was.entities; contracts = was.contracts; files = was.files; lives = ls })) lives);
+    keeps_sum = λ e. e ∙ sym (ap (λ ls. book_total weighing (record { capacity = was.capacity; entities = was.entities; contracts = was.contracts; files = was.files; lives = ls })) lives);
   }
 
   -- ---- Entities and contracts
@@ -62,7 +63,7 @@ module _ {V : Type 0} (nil : V) (joined : V → V → V) (weight : KeyParts → 
 
   pub entity_step : (was : Book) (t : V) (bs : Bytes) (r : Result (Unit {0}) EntityFault) (es : List Bytes) →
       refused_by r ≡ first_fit entity_list.entity_rows (was.entities, bs) → es ≡ entity_list.added was.entities bs →
-      Step nil joined weight was t (AddEntity bs) (entity_answer r) (with_entities was es) t
+      Step weighing was t (AddEntity bs) (entity_answer r) (with_entities was es) t
   entity_step was t bs r es e l =
       exactly was (with_entities was es) t (AddEntity bs) (entity_answer r) (entity_says was bs r _ e) (ap (with_entities was) l ∙ sym (entities_after bs was)) refl refl
 
@@ -74,7 +75,7 @@ module _ {V : Type 0} (nil : V) (joined : V → V → V) (weight : KeyParts → 
 
   pub contract_step : (was : Book) (t : V) (bs : Bytes) (r : Result ℕ ContractFault) (cs : List contract_list.Contract) →
       added_in r ≡ contract_list.adding was.contracts bs → cs ≡ contract_list.added was.contracts bs →
-      Step nil joined weight was t (AddContract bs) (contract_answer r) (with_contracts was cs) t
+      Step weighing was t (AddContract bs) (contract_answer r) (with_contracts was cs) t
   contract_step was t bs r cs e l =
       exactly was (with_contracts was cs) t (AddContract bs) (contract_answer r) (contract_says was bs _ r _ e) (ap (with_contracts was) l ∙ sym (contracts_after bs was)) refl refl
 
@@ -91,7 +92,7 @@ module _ {V : Type 0} (nil : V) (joined : V → V → V) (weight : KeyParts → 
 
   pub naming_step : {W : Type 0} (was : Book) (t : V) (bs : Bytes) (r : Result W NamingError) (fs : List File) → had_memory r ≡ true →
       name_refusal r ≡ cond (had_memory r) (first_fit naming_rows bs) None → fs ≡ cond (had_memory r) (named_in was.files bs) was.files →
-      Step nil joined weight was t (NameFile bs) (naming_answer r) (with_files was fs) t
+      Step weighing was t (NameFile bs) (naming_answer r) (with_files was fs) t
   naming_step was t bs r fs m e l =
       exactly was (with_files was fs) t (NameFile bs) (naming_answer r) (naming_says was bs r _ m e)
       (ap (with_files was) (l ∙ ap (λ x. cond x (named_in was.files bs) was.files) m) ∙ sym (files_as was (NameFile bs) _ (first_fit naming_rows bs) refl refl)) refl refl
@@ -105,19 +106,19 @@ module _ {V : Type 0} (nil : V) (joined : V → V → V) (weight : KeyParts → 
   token_says b n bs (Err f) v e = ap (answered b (Identify n bs)) e
 
   identified_step : (was : Book) (t : V) (n : ℕ) (bs : Bytes) (a : Answer) (fs : List File) → a ≡ answer was (Identify n bs) → fs ≡ identified_in was.entities was.files n bs →
-      Step nil joined weight was t (Identify n bs) a (with_files was fs) t
+      Step weighing was t (Identify n bs) a (with_files was fs) t
   identified_step was t n bs a fs e l =
       exactly was (with_files was fs) t (Identify n bs) a e
       (ap (with_files was) l ∙ sym (files_as was (Identify n bs) _ (first_fit identifying_rows (was.entities, file_of was.files n, bs)) refl refl)) refl refl
 
   pub identify_step : (was : Book) (t : V) (n : ℕ) (bs : Bytes) (r : Result (Unit {0}) IdentifyFault) (fs : List File) →
       identify_refusal r ≡ first_fit identifying_rows (was.entities, file_of was.files n, bs) → fs ≡ identified_in was.entities was.files n bs →
-      Step nil joined weight was t (Identify n bs) (identify_answer r) (with_files was fs) t
+      Step weighing was t (Identify n bs) (identify_answer r) (with_files was fs) t
   identify_step was t n bs r fs e l = identified_step was t n bs (identify_answer r) fs (identify_says was n bs r _ e) l
 
   pub token_step : {W : Type 0} (was : Book) (t : V) (n : ℕ) (bs : Bytes) (r : Result W (IdentifyFault × FileToken OnlyNamed)) (fs : List File) →
       token_refusal r ≡ first_fit identifying_rows (was.entities, file_of was.files n, bs) → fs ≡ identified_in was.entities was.files n bs →
-      Step nil joined weight was t (Identify n bs) (token_answer r) (with_files was fs) t
+      Step weighing was t (Identify n bs) (token_answer r) (with_files was fs) t
   token_step was t n bs r fs e l = identified_step was t n bs (token_answer r) fs (token_says was n bs r _ e) l
 
   -- a file ends, with its counts for a receipt
@@ -128,14 +129,14 @@ module _ {V : Type 0} (nil : V) (joined : V → V → V) (weight : KeyParts → 
 
   pub withdraw_step : (was : Book) (t : V) (n : ℕ) (r : Result Receipt PlaceFault) (fs : List File) →
       place_refusal r ≡ first_fit withdrawing_rows (file_of was.files n) → IfOk r (λ x. x ≡ receipt_of (file_of was.files n)) → fs ≡ withdrawn_in was.files n →
-      Step nil joined weight was t (Withdraw n) (ending_answer r) (with_files was fs) t
+      Step weighing was t (Withdraw n) (ending_answer r) (with_files was fs) t
   withdraw_step was t n r fs e m l =
       exactly was (with_files was fs) t (Withdraw n) (ending_answer r) (ending_says was (Withdraw n) (file_of was.files n) r _ refl refl e m)
       (ap (with_files was) l ∙ sym (files_as was (Withdraw n) _ (first_fit withdrawing_rows (file_of was.files n)) refl refl)) refl refl
 
   pub close_step : (was : Book) (t : V) (n : ℕ) (r : Result Receipt PlaceFault) (fs : List File) →
       place_refusal r ≡ first_fit closing_rows (file_of was.files n) → IfOk r (λ x. x ≡ receipt_of (file_of was.files n)) → fs ≡ closed_in was.files n →
-      Step nil joined weight was t (Close n) (ending_answer r) (with_files was fs) t
+      Step weighing was t (Close n) (ending_answer r) (with_files was fs) t
   close_step was t n r fs e m l =
       exactly was (with_files was fs) t (Close n) (ending_answer r) (ending_says was (Close n) (file_of was.files n) r _ refl refl e m)
       (ap (with_files was) l ∙ sym (files_as was (Close n) _ (first_fit closing_rows (file_of was.files n)) refl refl)) refl refl
@@ -158,9 +159,9 @@ module _ {V : Type 0} (nil : V) (joined : V → V → V) (weight : KeyParts → 
   finding_says b bs (Err x) (Err y) (Some w) e f = cc
 
   pub look_step : (was : Book) (t : V) (bs : Bytes) (x : Result Claim LineFault) (r : Result (Option Life) LineFault) →
-      claim_in x ≡ claiming was.contracts bs → Finds was x r → Step nil joined weight was t (LookUp bs) (finding_answer r) was t
+      claim_in x ≡ claiming was.contracts bs → Finds was x r → Step weighing was t (LookUp bs) (finding_answer r) was t
   look_step was t bs x r e f =
       exactly was was t (LookUp bs) (finding_answer r) (finding_says was bs x r _ e f) (sym (unchanged was (LookUp bs) refl refl (verdict was (LookUp bs)))) refl refl
 
-  pub total_step : (was : Book) (t : V) → Step nil joined weight was t Total Accepted was t
+  pub total_step : (was : Book) (t : V) → Step weighing was t Total Accepted was t
   total_step was t = exactly was was t Total Accepted refl refl refl refl

@@ -1,8 +1,9 @@
 -- What is held after a list of calls on a new checker: what the book holds after them.
+use Rattle.measure.specs.declared.measure.Measure.{Ghosts}
 use Rattle.std.specs.Prelude.{◌≡◌, ℕ, List, length}
 use Rattle.life.specs.Parts.{KeyParts, LifeParts}
 use Rattle.life.specs.Lives.{Same}
-use Rattle.measure.specs.Totals.{total_of}
+use Rattle.measure.specs.Totals.{total_in}
 use Rattle.book.specs.Book.{Book, empty_book, Call, Answer, answers, end}
 use Rattle.book.specs.Totals.{totals}
 
@@ -20,10 +21,10 @@ pub record Agrees (here book : Book) : Type 0 where
   pub same_lives : Same here.lives book.lives
   pub same_number : length here.lives ≡ length book.lives
 
-module _ {V : Type 0} (nil : V) (joined : V → V → V) (weight : KeyParts → LifeParts → V) where
+module _ {V : Type 0} (weighing : Ghosts V) where
   -- the joined weights of the book's open lives
   abbrev pub book_total : Book → V
-  book_total b = total_of nil joined weight b.lives
+  book_total b = total_in weighing b.lives
 
   -- the calls `past` lead from a new checker with room for so many lives to one that holds this and has this total
   pub record Follows (capacity : ℕ) (past : List Call) (here : Book) (sum : V) : Type 0 where
@@ -34,5 +35,5 @@ module _ {V : Type 0} (nil : V) (joined : V → V → V) (weight : KeyParts → 
   -- it holds what the book holds, and its total is the joined weights of the book's open lives
   pub record Ran (capacity : ℕ) (calls : List Call) (said : List Answer) (told : List V) (here : Book) (sum : V) : Type 0 where
     pub same_answers : said ≡ answers (empty_book capacity) calls
-    pub same_totals : told ≡ totals nil joined weight (empty_book capacity) calls
+    pub same_totals : told ≡ totals weighing.nil weighing.joined weighing.weight (empty_book capacity) calls
     pub follows : Follows capacity calls here sum

@@ -1,4 +1,5 @@
 -- What a checker holds, as a book; and the law over every history of calls that led to it.
+use Rattle.measure.specs.declared.measure.Measure.{Ghosts}
 use Rattle.std.specs.Prelude.{◌≡◌, ℕ, List, [], ◌∷◌, ◌++◌}
 use Rattle.life.specs.Parts.{KeyParts, LifeParts}
 use Rattle.book.specs.Book.{Book, Call, Answer, answer}
@@ -16,10 +17,10 @@ book_in c = record {
   lives = c.register.lives;
 }
 
-module _ {S M : Type 0} (nil : M) (joined : M → M → M) (weight : KeyParts → LifeParts → M) where
+module _ {S M : Type 0} (weighing : Ghosts M) where
   -- these calls lead from a new checker with room for so many lives to this one
   abbrev pub Led : ℕ → List Call → Checker S M → Type 0
-  Led capacity past c = Follows nil joined weight capacity past (book_in c) c.register.total
+  Led capacity past c = Follows weighing capacity past (book_in c) c.register.total
 
   -- for every list of calls that led to `was`, the answer is the book's after them, and they and this call lead to `is`
   abbrev pub Continues : Checker S M → Call → Answer → Checker S M → Type 0
@@ -31,7 +32,7 @@ module _ {S M : Type 0} (nil : M) (joined : M → M → M) (weight : KeyParts �
   abbrev pub Replies : Checker S M → Call → ReplyParts M → Checker S M → Type 0
   Replies was c r is =
       (capacity : ℕ) (past : List Call) → Led capacity past was →
-      (r ≡ reply nil joined weight (book_after capacity past) c) × Led capacity (past ++ c ∷ []) is
+      (r ≡ reply weighing (book_after capacity past) c) × Led capacity (past ++ c ∷ []) is
 
   -- every list of calls that led to `was` leads to `is`
   abbrev pub Stays : Checker S M → Checker S M → Type 0

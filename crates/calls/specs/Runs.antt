@@ -1,4 +1,5 @@
 -- A run of calls on a new checker: law (a).
+use Rattle.measure.specs.declared.measure.Measure.{Ghosts}
 use Rattle.std.specs.Prelude.{ℕ, List, vec_items}
 use Rattle.life.specs.Parts.{KeyParts, LifeParts}
 use Rattle.book.specs.Book.{Call}
@@ -9,6 +10,6 @@ use Rattle.calls.specs.Said.{answers_said}
 
 -- a new checker with room for so many lives was given these calls: its answers and the totals told are the book's, the lives of its register are
 -- the book's keys and lives, and its total is the joined weights of the book's open lives
-abbrev pub HasRun : {S M : Type 0} → M → (M → M → M) → (KeyParts → LifeParts → M) → ℕ → List Call → CompletedRun S M → Type 0
-HasRun nil joined weight capacity calls run =
-    Ran nil joined weight capacity calls (answers_said (vec_items run.answers)) (vec_items run.totals) (book_in run.checker) run.checker.register.total
+abbrev pub HasRun : {S M : Type 0} → Ghosts M → ℕ → List Call → CompletedRun S M → Type 0
+HasRun weighing capacity calls run =
+    Ran weighing capacity calls (answers_said (vec_items run.answers)) (vec_items run.totals) (book_in run.checker) run.checker.register.total

@@ -1,4 +1,5 @@
 -- Calls and answers of the code, as plain data.
+use Rattle.measure.specs.declared.measure.Measure.{Ghosts}
 use Rattle.std.specs.Prelude.{ℕ, List, map, Ok, Err, Option, Result}
 use Rattle.filing.specs.declared.entities.EntityFault.{EntityFault}
 use Rattle.filing.specs.Faults.{entity_number, name_number}
@@ -118,5 +119,5 @@ replied (book.LookUp bs) a t = Answering a
 replied book.Total a t = Totalling t
 
 -- what a book replies in a measure
-abbrev pub reply : {V : Type 0} → V → (V → V → V) → (KeyParts → LifeParts → V) → book.Book → book.Call → ReplyParts V
-reply nil joined weight b c = replied c (book.answer b c) (book_total nil joined weight b)
+abbrev pub reply : {V : Type 0} → Ghosts V → book.Book → book.Call → ReplyParts V
+reply weighing b c = replied c (book.answer b c) (book_total weighing b)

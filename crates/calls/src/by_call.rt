@@ -17,27 +17,27 @@ use std::alloc::AllocError;
 
 impl<'s, S: Store, M: Measure> Checker<'s, S, M> {
     fn identify_at(&mut self, number: usize, code: &[u8]) -> Result<(), IdentifyFault>
-        ensures { Continues M.nil M.joined M.weight self.old (IdentifyCall number code.now) (identify_answer result) self.new }
+        ensures { Continues M.Measure self.old (IdentifyCall number code.now) (identify_answer result) self.new }
     {
         self.files.identify_at(number, &self.entities, code)
     }
 
     fn withdraw_at(&mut self, number: usize) -> Result<Receipt, PlaceFault>
-        ensures { Continues M.nil M.joined M.weight self.old (WithdrawCall number) (ending_answer result) self.new }
+        ensures { Continues M.Measure self.old (WithdrawCall number) (ending_answer result) self.new }
     {
         self.files.withdraw_at(number)
     }
 
     fn close_at(&mut self, number: usize) -> Result<Receipt, PlaceFault>
-        ensures { Continues M.nil M.joined M.weight self.old (CloseCall number) (ending_answer result) self.new }
+        ensures { Continues M.Measure self.old (CloseCall number) (ending_answer result) self.new }
     {
         self.files.close_at(number)
     }
 
     // Names a file, whose number is how many were named before. For want of memory nothing changes.
     fn name_next(&mut self, name: &[u8]) -> Result<Answer, AllocError>
-        ensures follows { IfOk result (λ answer. Continues M.nil M.joined M.weight self.old (NameFile name.now) (answer_said answer) self.new) }
-        ensures memory { OnErr result (Stays M.nil M.joined M.weight self.old self.new) }
+        ensures follows { IfOk result (λ answer. Continues M.Measure self.old (NameFile name.now) (answer_said answer) self.new) }
+        ensures memory { OnErr result (Stays M.Measure self.old self.new) }
     {
         of_naming(self.files.name_next(name))
     }
@@ -45,8 +45,8 @@ impl<'s, S: Store, M: Measure> Checker<'s, S, M> {
     // Answers a call. For every list of calls that led here, the answer is the book's after them, and they and this call lead to what is now
     // here. Want of memory, which only naming a file can meet, is no answer, and changes nothing.
     pub fn call(&mut self, call: &Call) -> Result<Reply<M>, AllocError>
-        ensures follows { IfOk result (λ reply. Replies M.nil M.joined M.weight self.old (call_said call.now) (reply_said reply) self.new) }
-        ensures memory { OnErr result (Stays M.nil M.joined M.weight self.old self.new) }
+        ensures follows { IfOk result (λ reply. Replies M.Measure self.old (call_said call.now) (reply_said reply) self.new) }
+        ensures memory { OnErr result (Stays M.Measure self.old self.new) }
     {
         match *call {
             Call::AddEntity(code) => Ok(Reply::Answered(of_entity(self.add_entity(code)))),

@@ -14,8 +14,8 @@ impl<'s, S: Store, M: Measure> Checker<'s, S, M> {
     // Names a file; its number is how many were named before. Want of memory is no answer: nothing changes then.
     pub fn name_file(&mut self, name: &[u8]) -> Result<NamedFile, NamingError>
         ensures number { IfOk result (λ file. file.number ≡ length (self.old.files.files)) }
-        ensures follows { had_memory result ≡ true → Continues M.nil M.joined M.weight self.old (NameFile name.now) (naming_answer result) self.new }
-        ensures memory { had_memory result ≡ false → Stays M.nil M.joined M.weight self.old self.new }
+        ensures follows { had_memory result ≡ true → Continues M.Measure self.old (NameFile name.now) (naming_answer result) self.new }
+        ensures memory { had_memory result ≡ false → Stays M.Measure self.old self.new }
     {
         self.files.name(name)
     }
@@ -27,21 +27,21 @@ impl<'s, S: Store, M: Measure> Checker<'s, S, M> {
         code: &[u8],
     ) -> Result<IdentifiedFile, (IdentifyFault, NamedFile)>
         ensures token { MatchResult result (λ identified. identified.number ≡ file.number) (λ refusal. refusal.1 ≡ file) }
-        ensures follows { Continues M.nil M.joined M.weight self.old (IdentifyCall file.number code.now) (token_answer result) self.new }
+        ensures follows { Continues M.Measure self.old (IdentifyCall file.number code.now) (token_answer result) self.new }
     {
         self.files.identify(file, &self.entities, code)
     }
 
     // Ends a file that is only named, and gives its receipt.
     pub fn withdraw(&mut self, file: NamedFile) -> Result<Receipt, PlaceFault>
-        ensures { Continues M.nil M.joined M.weight self.old (WithdrawCall file.number) (ending_answer result) self.new }
+        ensures { Continues M.Measure self.old (WithdrawCall file.number) (ending_answer result) self.new }
     {
         self.files.withdraw(file)
     }
 
     // Ends an identified file, and gives its receipt.
     pub fn close(&mut self, file: IdentifiedFile) -> Result<Receipt, PlaceFault>
-        ensures { Continues M.nil M.joined M.weight self.old (CloseCall file.number) (ending_answer result) self.new }
+        ensures { Continues M.Measure self.old (CloseCall file.number) (ending_answer result) self.new }
     {
         self.files.close(file)
     }

@@ -16,14 +16,14 @@ use measure::Measure;
 impl<'s, S: Store, M: Measure> Checker<'s, S, M> {
     // Judges a line in an identified file, where it counts.
     pub fn judge(&mut self, file: &IdentifiedFile, line: &[u8]) -> Result<(), JudgeFault>
-        ensures { Continues M.nil M.joined M.weight self.old (JudgeCall file.now.number line.now) (judge_answer result) self.new }
+        ensures { Continues M.Measure self.old (JudgeCall file.now.number line.now) (judge_answer result) self.new }
     {
         self.judge_at(file.number(), line)
     }
 
     // Judges a line in the file of a number.
     pub(crate) fn judge_at(&mut self, number: usize, line: &[u8]) -> Result<(), JudgeFault>
-        ensures { Step M.nil M.joined M.weight (book_in self.old) self.old.register.total (JudgeCall number line.now) (judge_answer result) (book_in self.new) self.new.register.total }
+        ensures { Step M.Measure (book_in self.old) self.old.register.total (JudgeCall number line.now) (judge_answer result) (book_in self.new) self.new.register.total }
     {
         let answer = self.try_line(number, line);
         self.files.count_line(number, answer.is_ok());
@@ -32,7 +32,7 @@ impl<'s, S: Store, M: Measure> Checker<'s, S, M> {
 
     // What becomes of the lives, before the line is counted.
     fn try_line(&mut self, number: usize, line: &[u8]) -> Result<(), JudgeFault>
-        ensures { Tried M.nil M.joined M.weight (book_in self.old) self.old.register.total number line.now (judge_answer result) (book_in self.new) self.new.register.total }
+        ensures { Tried M.Measure (book_in self.old) self.old.register.total number line.now (judge_answer result) (book_in self.new) self.new.register.total }
     {
         self.files.takes(number)?;
         let claim = claim(&self.contracts, line)?;

@@ -18,7 +18,7 @@ use std::alloc::{AllocError, Global};
 impl<'s, S: Store, M: Measure> Checker<'s, S, M> {
     // A checker that has had no calls, with room for as many lives as the store, which is emptied.
     pub fn new(heap: Global, store: &'s mut S) -> Result<Checker<'s, S, M>, AllocError>
-        ensures { IfOk result (λ c. Led M.nil M.joined M.weight (S.room store.old) [] c) }
+        ensures { IfOk result (λ c. Led M.Measure (S.room store.old) [] c) }
     {
         let entities = EntityList::new(heap)?;
         let contracts = ContractList::new(heap)?;
@@ -34,21 +34,21 @@ impl<'s, S: Store, M: Measure> Checker<'s, S, M> {
 
     // Adds a reporting entity by its ACER code.
     pub fn add_entity(&mut self, code: &[u8]) -> Result<(), EntityFault>
-        ensures { Continues M.nil M.joined M.weight self.old (AddEntity code.now) (entity_answer result) self.new }
+        ensures { Continues M.Measure self.old (AddEntity code.now) (entity_answer result) self.new }
     {
         self.entities.add(code)
     }
 
     // Adds a contract by its text: its number, or the first rule that it breaks.
     pub fn add_contract(&mut self, text: &[u8]) -> Result<u8, ContractFault>
-        ensures { Continues M.nil M.joined M.weight self.old (AddContract text.now) (contract_answer result) self.new }
+        ensures { Continues M.Measure self.old (AddContract text.now) (contract_answer result) self.new }
     {
         self.contracts.add(text)
     }
 
     // The standing life of a line's key, or none; or the first rule of form or contract that the line breaks.
     pub fn look_up(&self, line: &[u8]) -> Result<Option<Life>, LineFault>
-        ensures { Continues M.nil M.joined M.weight self.now (LookUp line.now) (finding_answer result) self.now }
+        ensures { Continues M.Measure self.now (LookUp line.now) (finding_answer result) self.now }
     {
         let claim = claim(&self.contracts, line)?;
         Ok(self.register.find(&claim.key))
@@ -56,8 +56,8 @@ impl<'s, S: Store, M: Measure> Checker<'s, S, M> {
 
     // The total: the joined weights of the open lives.
     pub fn total(&self) -> &M
-        ensures told { (capacity : ℕ) (past : List Call) → Led M.nil M.joined M.weight capacity past self.now → result.now ≡ book_total M.nil M.joined M.weight (book_after capacity past) }
-        ensures follows { Continues M.nil M.joined M.weight self.now TotalCall AcceptedAnswer self.now }
+        ensures told { (capacity : ℕ) (past : List Call) → Led M.Measure capacity past self.now → result.now ≡ book_total M.Measure (book_after capacity past) }
+        ensures follows { Continues M.Measure self.now TotalCall AcceptedAnswer self.now }
     {
         self.register.total()
     }

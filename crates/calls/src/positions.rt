@@ -12,14 +12,14 @@ impl<'s, S: Store, B: Measure> Checker<'s, S, Both<Sheet, B>> {
     // The position of a contract, in hundred-thousandths. Over a store with room for at most 65,535 lives it is the true sum over the open trades of
     // the book: what was bought less what was sold.
     pub fn position(&self, contract: u8) -> i64
-        ensures { TellsPosition B.Measure.nil B.Measure.joined B.Measure.weight self.now contract result }
+        ensures { TellsPosition ⟦<Both<Sheet, B> as Measure>⟧ self.now contract result }
     {
         self.register.total().parts().0.position(contract)
     }
 
     // The positions of all contracts, by their numbers, 0 for trades outside a market place.
     pub fn positions(&self) -> [i64; 64]
-        ensures { (n : ℕ) → n < 64 → TellsPosition B.Measure.nil B.Measure.joined B.Measure.weight self.now n (slice_index_or result n (pos 0)) }
+        ensures { (n : ℕ) → n < 64 → TellsPosition ⟦<Both<Sheet, B> as Measure>⟧ self.now n (slice_index_or result n (pos 0)) }
     {
         // By a loop: from `array::from_fn` it could not be told that each call asks this checker.
         let mut sums = [0; CELLS];

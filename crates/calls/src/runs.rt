@@ -21,7 +21,7 @@ impl<'s, S: Store, M: Measure> CompletedRun<'s, S, M> {
         store: &'s mut S,
         calls: &[Call],
     ) -> Result<CompletedRun<'s, S, M>, AllocError>
-        ensures { IfOk result (λ run. HasRun M.nil M.joined M.weight (S.room store.old) [] run) }
+        ensures { IfOk result (λ run. HasRun M.Measure (S.room store.old) [] run) }
     {
         let checker = Checker::new(heap, store)?;
         let answers = Vec::with_capacity(heap, calls.len())?;
@@ -34,7 +34,7 @@ impl<'s, S: Store, M: Measure> CompletedRun<'s, S, M> {
 
     // One call more.
     fn step(&mut self, call: &Call) -> Result<(), AllocError>
-        ensures { OnOk result ((capacity : ℕ) (past : List BookCall) → HasRun M.nil M.joined M.weight capacity past self.old → HasRun M.nil M.joined M.weight capacity (past ++ call_said call.now ∷ []) self.new) }
+        ensures { OnOk result ((capacity : ℕ) (past : List BookCall) → HasRun M.Measure capacity past self.old → HasRun M.Measure capacity (past ++ call_said call.now ∷ []) self.new) }
     {
         match self.checker.call(call)? {
             Reply::Answered(answer) => self.answers.push(answer)?,
@@ -54,7 +54,7 @@ impl<'s, S: Store, M: Measure> Checker<'s, S, M> {
         store: &'s mut S,
         calls: &[Call],
     ) -> Result<CompletedRun<'s, S, M>, AllocError>
-        ensures { IfOk result (λ run. HasRun M.nil M.joined M.weight (S.room store.old) (calls_said calls.now) run) }
+        ensures { IfOk result (λ run. HasRun M.Measure (S.room store.old) (calls_said calls.now) run) }
     {
         let mut run = CompletedRun::begin(heap, store, calls)?;
         for call in calls {

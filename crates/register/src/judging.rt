@@ -3,7 +3,7 @@ ghost use Rattle.std.specs.Prelude.{◌≡◌, [], ◌∷◌, length, if◌then�
 ghost use Rattle.life.specs.Acts.{life_in};
 ghost use Rattle.life.specs.Lives.{look, Same, altered, erase};
 ghost use Rattle.life.specs.Parts.{LifeParts, key_parts, life_parts};
-ghost use Rattle.measure.specs.Totals.{total_of};
+ghost use Rattle.measure.specs.Totals.{total_in};
 ghost use Rattle.register.specs.Faults.{refused_by};
 ghost use Rattle.register.specs.Judged.{refusal, lives_after};
 
@@ -37,7 +37,7 @@ impl<'s, S: Store, M: Measure> Register<'s, S, M> {
     // The life of a key, if one stands.
     pub fn find(&self, key: &Key) -> Option<Life>
         ensures found { life_in result ≡ look (key_parts key.now) self.now.lives }
-        ensures sums { self.now.total ≡ total_of M.nil M.joined M.weight self.now.lives }
+        ensures sums { self.now.total ≡ total_in M.Measure self.now.lives }
     {
         self.store.find(key)
     }
@@ -45,7 +45,7 @@ impl<'s, S: Store, M: Measure> Register<'s, S, M> {
     // The total of the open lives.
     pub fn total(&self) -> &M
         ensures told { result.now ≡ self.now.total }
-        ensures sums { result.now ≡ total_of M.nil M.joined M.weight self.now.lives }
+        ensures sums { result.now ≡ total_in M.Measure self.now.lives }
     {
         &self.total
     }
@@ -55,7 +55,7 @@ impl<'s, S: Store, M: Measure> Register<'s, S, M> {
         ensures answers { refused_by result ≡ refusal self.old.room (key_parts key.now) action (life_parts told.now) self.old.lives }
         ensures holds { Same self.new.lives (lives_after (refusal self.old.room (key_parts key.now) action (life_parts told.now) self.old.lives) (key_parts key.now) action (life_parts told.now) self.old.lives) }
         ensures keeps { self.new.room ≡ self.old.room }
-        ensures sums { self.new.total ≡ total_of M.nil M.joined M.weight self.new.lives }
+        ensures sums { self.new.total ≡ total_in M.Measure self.new.lives }
     {
         let Some(old) = self.find(key) else {
             let life = first(action, told)?;
@@ -75,7 +75,7 @@ impl<'s, S: Store, M: Measure> Register<'s, S, M> {
         ensures answers { refused_by result ≡ (if nat_le self.old.room (length self.old.lives) then Some (47, 0) else None) }
         ensures holds { Same self.new.lives (if nat_le self.old.room (length self.old.lives) then self.old.lives else (key_parts key.now, life_parts life) ∷ self.old.lives) }
         ensures keeps { self.new.room ≡ self.old.room }
-        ensures sums { self.new.total ≡ total_of M.nil M.joined M.weight self.new.lives }
+        ensures sums { self.new.total ≡ total_in M.Measure self.new.lives }
     {
         match self.store.put(key, life) {
             Ok(()) => {
@@ -91,7 +91,7 @@ impl<'s, S: Store, M: Measure> Register<'s, S, M> {
         requires { look (key_parts key.now) self.old.lives ≡ Some (life_parts old.now) }
         ensures holds { (f : LifeParts → LifeParts) → f (life_parts old.now) ≡ life_parts new → Same self.new.lives (altered (key_parts key.now) f self.old.lives) }
         ensures keeps { self.new.room ≡ self.old.room }
-        ensures sums { self.new.total ≡ total_of M.nil M.joined M.weight self.new.lives }
+        ensures sums { self.new.total ≡ total_in M.Measure self.new.lives }
     {
         let _ = self.store.put(key, new);
         replace(&mut self.total, key, old, &new);
@@ -102,7 +102,7 @@ impl<'s, S: Store, M: Measure> Register<'s, S, M> {
         requires { look (key_parts key.now) self.old.lives ≡ Some (life_parts old.now) }
         ensures holds { Same self.new.lives (erase (key_parts key.now) self.old.lives) }
         ensures keeps { self.new.room ≡ self.old.room }
-        ensures sums { self.new.total ≡ total_of M.nil M.joined M.weight self.new.lives }
+        ensures sums { self.new.total ≡ total_in M.Measure self.new.lives }
     {
         self.store.remove(key);
         go(&mut self.total, key, old);

@@ -1,7 +1,7 @@
 // A store of lives, and the total of what its open lives weigh.
 ghost use Rattle.std.specs.Prelude.{◌≡◌};
 ghost use Rattle.life.specs.Lives.{plain};
-ghost use Rattle.measure.specs.Totals.{total_of};
+ghost use Rattle.measure.specs.Totals.{total_in};
 ghost use Rattle.register.specs.Held.{Held, held};
 
 use life::Store;
@@ -20,5 +20,5 @@ impl<'s, S: Store, M: Measure> Model for Register<'s, S, M> {
 
     ghost view = { λ r. held (S.room r.store.now) (S.pairs r.store.now) (S.unique r.store.now) r.total };
 
-    ghost invariant = { λ r. r.total ≡ total_of M.nil M.joined M.weight (plain (S.pairs r.store.now)) };
+    ghost invariant = { λ r. r.total ≡ total_in M.Measure (plain (S.pairs r.store.now)) };
 }

@@ -2,12 +2,13 @@
 use Rattle.std.proofs.Common.{◌≡◌, ℕ, List, [], ◌∷◌, length, sym, ap, ◌∙◌, subst}
 use Rattle.std.specs.List.{AllZip}
 use Rattle.life.specs.Parts.{KeyParts, LifeParts}
+use Rattle.measure.specs.declared.measure.Measure.{Ghosts}
 use Rattle.life.specs.Lives.{look}
 use Rattle.book.specs.Book.{Book, empty_book, Call, AddEntity, AddContract, NameFile, Identify, Withdraw, Close, Judge, LookUp, Total, Answer, verdict, answered, answer, after, answers, end}
 use Rattle.book.specs.Laws.{log, survivors, Taken, subject, EveryLineAccepted, FewerLines}
 use Rattle.book.proofs.Survivors.{survivors_law}
 use Rattle.book.proofs.Tidy.{tidy_law}
-use Rattle.measure.specs.Totals.{total_of}
+use Rattle.measure.specs.Totals.{total_in}
 use Rattle.calls.specs.Follows.{Agrees, Ran}
 use Rattle.resends.specs.Resends.{LineAccepted, LinesAccepted, Resends}
 
@@ -26,10 +27,10 @@ all_taken : (cs : List Call) (b : Book) → EveryLineAccepted (log b cs) → Lin
 all_taken [] b h = tt
 all_taken (c ∷ cs) b h = (taken_line b c h.0, all_taken cs (after b c) h.1)
 
-module _ {V : Type 0} (nil : V) (joined : V → V → V) (weight : KeyParts → LifeParts → V) where
+module _ {V : Type 0} (weighing : Ghosts V) where
   pub resends : (capacity : ℕ) (calls left : List Call) (said again : List Answer) (told told-again : List V) (first second : Book) (sum other : V) →
-      Ran nil joined weight capacity calls said told first sum → left ≡ survivors (log (empty_book capacity) calls) → Ran nil joined weight capacity left again told-again second other →
-      Resends nil joined weight capacity calls said told left again told-again first sum second other
+      Ran weighing capacity calls said told first sum → left ≡ survivors (log (empty_book capacity) calls) → Ran weighing capacity left again told-again second other →
+      Resends weighing capacity calls said told left again told-again first sum second other
   resends capacity calls left said again told told-again first second sum other r e q =
       let start : Book = empty_book capacity in
       let law = survivors_law capacity calls in
@@ -48,5 +49,5 @@ module _ {V : Type 0} (nil : V) (joined : V → V → V) (weight : KeyParts → 
         like_files = subst (λ fs. AllZip FewerLines fs second.files) (sym one.same_files) (subst (AllZip FewerLines (end start calls).files) (sym (two.same_files ∙ ap (λ b. b.files) kept)) law.1.like_files);
         same_lives = λ j. two.same_lives j ∙ ap (look j) lives ∙ sym (one.same_lives j);
         same_number = two.same_number ∙ ap length lives ∙ sym one.same_number;
-        same_total = q.follows.sums ∙ ap (total_of nil joined weight) lives ∙ sym r.follows.sums;
+        same_total = q.follows.sums ∙ ap (total_in weighing) lives ∙ sym r.follows.sums;
       }

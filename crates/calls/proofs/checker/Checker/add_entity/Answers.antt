@@ -10,5 +10,5 @@ returns g c =
     let m = g.M.Measure in
     let s = g.S.Store in
     let was = c.args.self.now in
-    continues m.laws m.weight was (record { register = was.register; entities = c.add.new.self; contracts = was.contracts; files = was.files }) (AddEntity c.args.code.now) (entity_answer c.add.result)
-    (entity_step m.nil m.joined m.weight (book_in was) was.register.total c.args.code.now c.add.result c.add.new.self c.add.ensures.told c.add.ensures.list)
+    continues m was (record { register = was.register; entities = c.add.new.self; contracts = was.contracts; files = was.files }) (AddEntity c.args.code.now) (entity_answer c.add.result)
+    (entity_step m (book_in was) was.register.total c.args.code.now c.add.result c.add.new.self c.add.ensures.told c.add.ensures.list)

@@ -14,9 +14,9 @@ returns-in-Judge g c =
     let is = c.judge_at.new.self in
     record {
       follows =
-          subst (λ x. Replies m.nil m.joined m.weight was (call_said x) (Answering (answer_said c.of_judging.result)) is) (sym c.in-Judge.is)
+          subst (λ x. Replies m was (call_said x) (Answering (answer_said c.of_judging.result)) is) (sym c.in-Judge.is)
           (λ capacity past f.
-          let goes = continues m.laws m.weight was is (Judge c.in-Judge.number c.in-Judge.line.now) (judge_answer c.judge_at.result) c.judge_at.ensures capacity past f in
+          let goes = continues m was is (Judge c.in-Judge.number c.in-Judge.line.now) (judge_answer c.judge_at.result) c.judge_at.ensures capacity past f in
           (ap Answering (c.of_judging.ensures ∙ goes.0), goes.1));
       memory = tt;
     }
@@ -28,7 +28,7 @@ returns-in-LookUp g c =
     let was = c.args.self.now in
     record {
       follows =
-          subst (λ x. Replies m.nil m.joined m.weight was (call_said x) (Answering (answer_said c.of_finding.result)) was) (sym c.in-LookUp.is)
+          subst (λ x. Replies m was (call_said x) (Answering (answer_said c.of_finding.result)) was) (sym c.in-LookUp.is)
           (λ capacity past f. let goes = c.look_up.ensures capacity past f in (ap Answering (c.of_finding.ensures ∙ goes.0), goes.1));
       memory = tt;
     }
@@ -40,9 +40,9 @@ returns-in-Total g c =
     let was = c.args.self.now in
     record {
       follows =
-          subst (λ x. Replies m.nil m.joined m.weight was (call_said x) (Totalling c.copied.result) was) (sym c.in-Total.is)
+          subst (λ x. Replies m was (call_said x) (Totalling c.copied.result) was) (sym c.in-Total.is)
           (λ capacity past f.
-          let goes = continues m.laws m.weight was was Total Accepted (total_step m.nil m.joined m.weight (book_in was) was.register.total) capacity past f in
+          let goes = continues m was was Total Accepted (total_step m (book_in was) was.register.total) capacity past f in
           (ap Totalling (c.copied.ensures ∙ c.total.ensures.told ∙ f.sums), goes.1));
       memory = tt;
     }

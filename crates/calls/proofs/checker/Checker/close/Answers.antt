@@ -12,5 +12,5 @@ returns g c =
     let m = g.M.Measure in
     let s = g.S.Store in
     let was = c.args.self.now in
-    continues m.laws m.weight was (record { register = was.register; entities = was.entities; contracts = was.contracts; files = c.close.new.self }) (Close c.args.file.number) (ending_answer c.close.result)
-    (close_step m.nil m.joined m.weight (book_in was) was.register.total c.args.file.number c.close.result (c.close.new.self.files) c.close.ensures.told c.close.ensures.counts (ap (λ (f : Filed). f.files) c.close.ensures.list))
+    continues m was (record { register = was.register; entities = was.entities; contracts = was.contracts; files = c.close.new.self }) (Close c.args.file.number) (ending_answer c.close.result)
+    (close_step m (book_in was) was.register.total c.args.file.number c.close.result (c.close.new.self.files) c.close.ensures.told c.close.ensures.counts (ap (λ (f : Filed). f.files) c.close.ensures.list))

@@ -15,6 +15,6 @@ returns g c =
     record {
       token = c.identify.ensures.token;
       follows =
-          continues m.laws m.weight was (record { register = was.register; entities = was.entities; contracts = was.contracts; files = c.identify.new.self }) (Identify c.args.file.number c.args.code.now) (token_answer c.identify.result)
-          (token_step m.nil m.joined m.weight (book_in was) was.register.total c.args.file.number c.args.code.now c.identify.result (c.identify.new.self.files) c.identify.ensures.told (ap (λ (f : Filed). f.files) c.identify.ensures.list));
+          continues m was (record { register = was.register; entities = was.entities; contracts = was.contracts; files = c.identify.new.self }) (Identify c.args.file.number c.args.code.now) (token_answer c.identify.result)
+          (token_step m (book_in was) was.register.total c.args.file.number c.args.code.now c.identify.result (c.identify.new.self.files) c.identify.ensures.told (ap (λ (f : Filed). f.files) c.identify.ensures.list));
     }

@@ -13,5 +13,5 @@ returns g c =
     let s = g.S.Store in
     let was = c.args.self.now in
     let call = c.identify_at in
-    continues m.laws m.weight was (record { register = was.register; entities = was.entities; contracts = was.contracts; files = call.new.self }) (Identify c.args.number c.args.code.now) (identify_answer call.result)
-    (identify_step m.nil m.joined m.weight (book_in was) was.register.total c.args.number c.args.code.now call.result (call.new.self.files) call.ensures.told (ap (λ (f : Filed). f.files) call.ensures.list))
+    continues m was (record { register = was.register; entities = was.entities; contracts = was.contracts; files = call.new.self }) (Identify c.args.number c.args.code.now) (identify_answer call.result)
+    (identify_step m (book_in was) was.register.total c.args.number c.args.code.now call.result (call.new.self.files) call.ensures.told (ap (λ (f : Filed). f.files) call.ensures.list))

@@ -12,5 +12,5 @@ returns g c =
     let s = g.S.Store in
     let was = c.args.self.now in
     let is = c.judge_at.new.self in
-    continues m.laws m.weight was is (Judge c.args.file.now.number c.args.line.now) (judge_answer c.judge_at.result)
-    (subst (λ n. Step m.nil m.joined m.weight (book_in was) was.register.total (Judge n c.args.line.now) (judge_answer c.judge_at.result) (book_in is) is.register.total) c.number.ensures c.judge_at.ensures)
+    continues m was is (Judge c.args.file.now.number c.args.line.now) (judge_answer c.judge_at.result)
+    (subst (λ n. Step m (book_in was) was.register.total (Judge n c.args.line.now) (judge_answer c.judge_at.result) (book_in is) is.register.total) c.number.ensures c.judge_at.ensures)

@@ -10,5 +10,5 @@ returns g c =
     let s = g.S.Store in
     let was = c.args.self.now in
     let mid = c.try_line-answer.new.self in
-    counted_step m.nil m.joined m.weight (book_in was) (book_in mid) was.register.total mid.register.total c.args.number c.args.line.now
+    counted_step m (book_in was) (book_in mid) was.register.total mid.register.total c.args.number c.args.line.now
     c.try_line-answer.result c.is_ok.result (c.count_line.new.self.files) c.try_line-answer.ensures c.is_ok.ensures.value (ap (λ (f : Filed). f.files) c.count_line.ensures)

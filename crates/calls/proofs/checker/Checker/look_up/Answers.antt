@@ -14,14 +14,14 @@ returns-in_err-claim g c =
     let was = c.args.self.now in
     let p = err_from_is_err_and c.from_residual.result c.from_residual.ensures.1 in
     let x = c.in_err-claim.field-0.0 in
-    subst (λ r. Continues m.nil m.joined m.weight was (LookUp c.args.line.now) (finding_answer r) was) (sym (p.1 ∙ ap Err p.2))
-    (continues m.laws m.weight was was (LookUp c.args.line.now) (finding_answer (Err x))
-    (look_step m.nil m.joined m.weight (book_in was) was.register.total c.args.line.now (Err x) (Err x) c.in_err-claim.ensures refl))
+    subst (λ r. Continues m was (LookUp c.args.line.now) (finding_answer r) was) (sym (p.1 ∙ ap Err p.2))
+    (continues m was was (LookUp c.args.line.now) (finding_answer (Err x))
+    (look_step m (book_in was) was.register.total c.args.line.now (Err x) (Err x) c.in_err-claim.ensures refl))
 
 pub returns : goal.returns
 returns g c =
     let m = g.M.Measure in
     let s = g.S.Store in
     let was = c.args.self.now in
-    continues m.laws m.weight was was (LookUp c.args.line.now) (finding_answer (Ok c.find.result))
-    (look_step m.nil m.joined m.weight (book_in was) was.register.total c.args.line.now (Ok c.in_ok-claim.claim) (Ok c.find.result) c.in_ok-claim.ensures c.find.ensures.found)
+    continues m was was (LookUp c.args.line.now) (finding_answer (Ok c.find.result))
+    (look_step m (book_in was) was.register.total c.args.line.now (Ok c.in_ok-claim.claim) (Ok c.find.result) c.in_ok-claim.ensures c.find.ensures.found)

@@ -17,9 +17,9 @@ returns g c =
     record {
       number = c.name.ensures.number;
       follows = λ had.
-          continues m.laws m.weight was (record { register = was.register; entities = was.entities; contracts = was.contracts; files = c.name.new.self }) (NameFile c.args.name.now) (naming_answer c.name.result)
-          (naming_step m.nil m.joined m.weight (book_in was) was.register.total c.args.name.now c.name.result (c.name.new.self.files) had c.name.ensures.told c.name.ensures.list);
+          continues m was (record { register = was.register; entities = was.entities; contracts = was.contracts; files = c.name.new.self }) (NameFile c.args.name.now) (naming_answer c.name.result)
+          (naming_step m (book_in was) was.register.total c.args.name.now c.name.result (c.name.new.self.files) had c.name.ensures.told c.name.ensures.list);
       memory = λ none capacity past f.
-          subst (λ fs. Follows m.nil m.joined m.weight capacity past (with_files (book_in was) fs) was.register.total)
+          subst (λ fs. Follows m capacity past (with_files (book_in was) fs) was.register.total)
           (sym (c.name.ensures.list ∙ ap (λ b. cond b (named_in files c.args.name.now) files) none)) f;
     }

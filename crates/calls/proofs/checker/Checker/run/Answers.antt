@@ -13,7 +13,7 @@ loop-call-preserved g c = λ capacity f.
     let s = g.S.Store in
     let cs = c.args.calls.now in
     let i = c.loop-call.call-index in
-    subst (λ calls. HasRun m.nil m.joined m.weight capacity calls c.step.new.self) (said_more cs i _ c.loop-call-test.true)
+    subst (λ calls. HasRun m capacity calls c.step.new.self) (said_more cs i _ c.loop-call-test.true)
     (c.in_ok-step.ensures capacity (calls_said (take i cs)) (c.loop-call.invariant capacity f))
 
 pub returns : goal.returns
@@ -21,5 +21,5 @@ returns g c =
     let m = g.M.Measure in
     let s = g.S.Store in
     let capacity = s.room c.args.store.now in
-    subst (λ calls. HasRun m.nil m.joined m.weight capacity calls c.loop-call.run) (said_all c.args.calls.now c.loop-call.call-index c.loop-call-test.false)
+    subst (λ calls. HasRun m capacity calls c.loop-call.run) (said_all c.args.calls.now c.loop-call.call-index c.loop-call-test.false)
     (c.loop-call.invariant capacity c.in_ok-run.ensures)

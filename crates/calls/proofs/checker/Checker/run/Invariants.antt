@@ -7,5 +7,5 @@ abbrev pub invariant-loop-call : goal.invariant-loop-call
 invariant-loop-call g l =
     let m = g.M.Measure in
     let s = g.S.Store in
-    (capacity : ℕ) → HasRun m.nil m.joined m.weight capacity [] l.initial.run →
-    HasRun m.nil m.joined m.weight capacity (calls_said (take l.call-index l.calls)) l.run
+    (capacity : ℕ) → HasRun m capacity [] l.initial.run →
+    HasRun m capacity (calls_said (take l.call-index l.calls)) l.run

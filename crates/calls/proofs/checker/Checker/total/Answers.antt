@@ -12,5 +12,5 @@ returns g c =
     let was = c.args.self.now in
     record {
       told = λ capacity past f. c.total.ensures.told ∙ f.sums;
-      follows = continues m.laws m.weight was was Total Accepted (total_step m.nil m.joined m.weight (book_in was) was.register.total);
+      follows = continues m was was Total Accepted (total_step m (book_in was) was.register.total);
     }

@@ -12,14 +12,14 @@ pub returns-in_err-takes : goal.returns-in_err-takes
 returns-in_err-takes g c =
     let m = g.M.Measure in
     let s = g.S.Store in
-    file_refused m.nil m.joined m.weight (book_in c.args.self.now) c.args.self.now.register.total c.args.number c.args.line.now
+    file_refused m (book_in c.args.self.now) c.args.self.now.register.total c.args.number c.args.line.now
     c.from_residual.result c.in_err-takes.field-0.0 c.from_residual.ensures.1 c.in_err-takes.ensures
 
 pub returns-in_err-claim : goal.returns-in_err-claim
 returns-in_err-claim g c =
     let m = g.M.Measure in
     let s = g.S.Store in
-    text_refused m.nil m.joined m.weight (book_in c.args.self.now) c.args.self.now.register.total c.args.number c.args.line.now
+    text_refused m (book_in c.args.self.now) c.args.self.now.register.total c.args.number c.args.line.now
     c.from_residual-in_err-claim.result c.in_err-claim.field-0.0 c.from_residual-in_err-claim.ensures.1 c.in_ok-takes.ensures c.in_err-claim.ensures
 
 pub returns-in-Ok : goal.returns-in-Ok
@@ -28,7 +28,7 @@ returns-in-Ok g c =
     let s = g.S.Store in
     let claim = c.in_ok-claim.claim in
     let e = c.in-Ok.ensures in
-    lives_decide m.nil m.joined m.weight (book_in c.args.self.now) _ c.args.self.now.register.total c.judge.new.self.total c.args.number c.args.line.now
+    lives_decide m (book_in c.args.self.now) _ c.args.self.now.register.total c.judge.new.self.total c.args.number c.args.line.now
     claim claim.key.kind (Ok c.in-Ok.field-0) c.in_ok-takes.ensures c.in_ok-claim.ensures refl refl refl e.keeps e.answers e.holds (λ was. e.sums)
 
 pub returns-in-Err : goal.returns-in-Err
@@ -41,6 +41,6 @@ returns-in-Err g c =
     let was = book_in c.args.self.now in
     let is = book_in {S = g.row.S.Denot} (record { register = c.judge.new.self; entities = c.args.self.now.entities; contracts = c.args.self.now.contracts; files = c.args.self.now.files }) in
     let offset : start (act_field fault) (fields c.args.line.now) ≡ c.field_offset.result = ap (λ n. start n (fields c.args.line.now)) (sym c.field.ensures) ∙ sym c.field_offset.ensures in
-    subst (λ at. Tried m.nil m.joined m.weight was c.args.self.now.register.total c.args.number c.args.line.now (Refused (act_number fault) (act_field fault) at) is c.judge.new.self.total) offset
-    (lives_decide m.nil m.joined m.weight was is c.args.self.now.register.total c.judge.new.self.total c.args.number c.args.line.now
+    subst (λ at. Tried m was c.args.self.now.register.total c.args.number c.args.line.now (Refused (act_number fault) (act_field fault) at) is c.judge.new.self.total) offset
+    (lives_decide m was is c.args.self.now.register.total c.judge.new.self.total c.args.number c.args.line.now
     claim claim.key.kind (Err fault) c.in_ok-takes.ensures c.in_ok-claim.ensures refl refl refl e.keeps e.answers e.holds (λ was. e.sums))

@@ -12,5 +12,5 @@ returns g c =
     let m = g.M.Measure in
     let s = g.S.Store in
     let was = c.args.self.now in
-    continues m.laws m.weight was (record { register = was.register; entities = was.entities; contracts = was.contracts; files = c.withdraw.new.self }) (Withdraw c.args.file.number) (ending_answer c.withdraw.result)
-    (withdraw_step m.nil m.joined m.weight (book_in was) was.register.total c.args.file.number c.withdraw.result (c.withdraw.new.self.files) c.withdraw.ensures.told c.withdraw.ensures.counts (ap (λ (f : Filed). f.files) c.withdraw.ensures.list))
+    continues m was (record { register = was.register; entities = was.entities; contracts = was.contracts; files = c.withdraw.new.self }) (Withdraw c.args.file.number) (ending_answer c.withdraw.result)
+    (withdraw_step m (book_in was) was.register.total c.args.file.number c.withdraw.result (c.withdraw.new.self.files) c.withdraw.ensures.told c.withdraw.ensures.counts (ap (λ (f : Filed). f.files) c.withdraw.ensures.list))

@@ -13,5 +13,5 @@ returns g c =
     let s = g.S.Store in
     let was = c.args.self.now in
     let call = c.withdraw_at in
-    continues m.laws m.weight was (record { register = was.register; entities = was.entities; contracts = was.contracts; files = call.new.self }) (Withdraw c.args.number) (ending_answer call.result)
-    (withdraw_step m.nil m.joined m.weight (book_in was) was.register.total c.args.number call.result (call.new.self.files) call.ensures.told call.ensures.counts (ap (λ (f : Filed). f.files) call.ensures.list))
+    continues m was (record { register = was.register; entities = was.entities; contracts = was.contracts; files = call.new.self }) (Withdraw c.args.number) (ending_answer call.result)
+    (withdraw_step m (book_in was) was.register.total c.args.number call.result (call.new.self.files) call.ensures.told call.ensures.counts (ap (λ (f : Filed). f.files) call.ensures.list))

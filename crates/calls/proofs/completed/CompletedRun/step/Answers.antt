@@ -12,7 +12,7 @@ returns-in_ok-push-in-Answered g c capacity past f =
     let was = c.args.self.now in
     let is = c.call.new.self in
     let goes = c.in_ok-answer.ensures.follows capacity past f.follows in
-    goes_answered m.nil m.joined m.weight capacity past (call_said c.args.call.now) (vec_items was.answers) (vec_items was.totals)
+    goes_answered m capacity past (call_said c.args.call.now) (vec_items was.answers) (vec_items was.totals)
     (book_in was.checker) (book_in is) was.checker.register.total is.register.total c.in-Answered.answer (vec_items c.push.new.self)
     c.in_ok-push-in-Answered.ensures.items f (sym (ap reply_said c.in-Answered.is) ∙ goes.0, goes.1)
 
@@ -23,6 +23,6 @@ returns-in_ok-push-in-Total-2 g c capacity past f =
     let was = c.args.self.now in
     let is = c.call.new.self in
     let goes = c.in_ok-answer.ensures.follows capacity past f.follows in
-    goes_totalled m.nil m.joined m.weight capacity past (call_said c.args.call.now) (vec_items was.answers) (vec_items was.totals)
+    goes_totalled m capacity past (call_said c.args.call.now) (vec_items was.answers) (vec_items was.totals)
     (book_in was.checker) (book_in is) was.checker.register.total is.register.total c.in-Total.total Accepted (vec_items c.push-in-Total.new.self) (vec_items c.push-in-Total-2.new.self)
     refl c.in_ok-push-in-Total.ensures.items c.in_ok-push-in-Total-2.ensures.items f (sym (ap reply_said c.in-Total.is) ∙ goes.0, goes.1)
