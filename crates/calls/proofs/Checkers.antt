@@ -2,8 +2,6 @@
 use Rattle.measure.specs.declared.measure.Measure.{Ghosts}
 use Rattle.std.proofs.Common.{◌≡◌, Bool, true, false, IfOk, IfErr, Ok, Err, Result, sym, subst, MatchResult}
 use Rattle.std.specs.declared.alloc.AllocError.{AllocError}
-use Rattle.life.specs.Parts.{KeyParts, LifeParts}
-use Rattle.measure.specs.Group.{Group}
 use Rattle.book.specs.Book.{Call, Answer}
 use Rattle.calls.specs.declared.answer.Answer.{Answer as Spoken}
 use Rattle.calls.specs.declared.checker.Checker.{Checker}

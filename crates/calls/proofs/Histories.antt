@@ -8,7 +8,6 @@ use Rattle.life.specs.Parts.{KeyParts, LifeParts}
 use Rattle.life.specs.Keys.{same_key}
 use Rattle.life.specs.Lives.{Lives, look, altered, Unique, Same}
 use Rattle.life.proofs.Lives.{same_erase, look_altered_at, length_same, mapped}
-use Rattle.measure.specs.Group.{Group}
 use Rattle.measure.proofs.Sums.{total_same}
 use Rattle.book.specs.Book.{Book, empty_book, Call, AddEntity, AddContract, NameFile, Identify, Withdraw, Close, Judge, LookUp, Total, Answer, told_by, key_of, verdict, acted, done, undone, changed, after, granted, answered, answer}
 use Rattle.book.specs.Laws.{Tidy}

@@ -13,7 +13,7 @@ use Rattle.files.specs.Answers.{take_refusal}
 use Rattle.files.specs.Faults.{take_number}
 use Rattle.filing.specs.Files.{File, taking_rows, one_accepted}
 use Rattle.files.specs.Files.{file_of, counted}
-use Rattle.life.specs.Parts.{KeyParts, LifeParts, key_parts, life_parts}
+use Rattle.life.specs.Parts.{key_parts, life_parts}
 use Rattle.life.specs.Lives.{look, Same}
 use Rattle.life.specs.Rules.{Claim, is_new, life_rows}
 use Rattle.claims.specs.declared.claimed.Claim as code

@@ -23,7 +23,7 @@ use Rattle.files.specs.Faults.{place_number}
 use Rattle.files.specs.Files.{file_of, named_in, identified_in, withdrawn_in, closed_in}
 use Rattle.life.specs.declared.life.Life.{Life}
 use Rattle.life.specs.Acts.{life_in}
-use Rattle.life.specs.Parts.{KeyParts, LifeParts, key_parts}
+use Rattle.life.specs.Parts.{key_parts}
 use Rattle.claims.specs.declared.claimed.Claim.{Claim}
 use Rattle.claims.specs.declared.faults.LineFault.{LineFault}
 use Rattle.claims.specs.Claims.{claimed_by, claiming}

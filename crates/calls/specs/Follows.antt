@@ -1,7 +1,6 @@
 -- What is held after a list of calls on a new checker: what the book holds after them.
 use Rattle.measure.specs.declared.measure.Measure.{Ghosts}
 use Rattle.std.specs.Prelude.{◌≡◌, ℕ, List, length}
-use Rattle.life.specs.Parts.{KeyParts, LifeParts}
 use Rattle.life.specs.Lives.{Same}
 use Rattle.measure.specs.Totals.{total_in}
 use Rattle.book.specs.Book.{Book, empty_book, Call, Answer, answers, end}

@@ -1,7 +1,6 @@
 -- What a checker holds, as a book; and the law over every history of calls that led to it.
 use Rattle.measure.specs.declared.measure.Measure.{Ghosts}
 use Rattle.std.specs.Prelude.{◌≡◌, ℕ, List, [], ◌∷◌, ◌++◌}
-use Rattle.life.specs.Parts.{KeyParts, LifeParts}
 use Rattle.book.specs.Book.{Book, Call, Answer, answer}
 use Rattle.calls.specs.declared.checker.Checker.{Checker}
 use Rattle.calls.specs.Follows.{book_after, Follows}

@@ -1,7 +1,6 @@
 -- A run of calls on a new checker: law (a).
 use Rattle.measure.specs.declared.measure.Measure.{Ghosts}
 use Rattle.std.specs.Prelude.{ℕ, List, vec_items}
-use Rattle.life.specs.Parts.{KeyParts, LifeParts}
 use Rattle.book.specs.Book.{Call}
 use Rattle.calls.specs.declared.completed.CompletedRun.{CompletedRun}
 use Rattle.calls.specs.Follows.{Ran}

@@ -15,7 +15,6 @@ use Rattle.files.specs.declared.receipt.Receipt as files
 use Rattle.files.specs.Faults.{identify_number, place_number}
 use Rattle.life.specs.declared.life.Life.{Life}
 use Rattle.life.specs.Acts.{life_in}
-use Rattle.life.specs.Parts.{KeyParts, LifeParts}
 use Rattle.claims.specs.declared.faults.LineFault.{LineFault}
 use Rattle.claims.specs.Faults.{line_fault_number, line_fault_field, line_fault_offset}
 use Rattle.book.specs.Book as book

@@ -2,7 +2,6 @@
 use Rattle.measure.specs.declared.measure.Measure.{Ghosts}
 use Rattle.std.specs.Prelude.{◌≡◌, ℕ}
 use Rattle.text.specs.Bytes.{Bytes}
-use Rattle.life.specs.Parts.{KeyParts, LifeParts}
 use Rattle.life.specs.Lives.{Same}
 use Rattle.book.specs.Book.{Book, Call, Judge, Answer, answer, after}
 use Rattle.calls.specs.Follows.{book_total}
