@@ -60,6 +60,14 @@ impl<const N: usize> Text<N> {
     }
 }
 
+impl<const N: usize> Default for Text<N> {
+    ghost is_default = { λ t. text_of t ≡ [] };
+
+    fn default() -> Text<N> {
+        Text::empty()
+    }
+}
+
 // Whether two texts are the same, found with no way out early once they are as long as each other.
 pub fn same_bytes(a: &[u8], b: &[u8]) -> bool
     ensures { result ≡ bytes_eq a.now b.now }
