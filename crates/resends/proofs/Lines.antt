@@ -54,13 +54,12 @@ module _ (b : Book) (n : ℕ) (bs : Bytes) where
   no_fault v x None h e = let z : ◌≡◌ {A = ℕ} 0 1 = cc in omega arith
   no_fault v x (Some r) h e = let z : ◌≡◌ {A = ℕ} 0 1 = cc in omega arith
 
-  pub accepted_line : (cs : List Contract) (c : Claim) (error : Bool) → b.contracts ≡ cs → Accepted ≡ answer b (Judge n bs) → claim_in (Ok c) ≡ claiming cs bs → error ≡ is_error c.action →
-      LineOf (key_parts c.key) error ≡ mark_in b (Judge n bs)
-  accepted_line cs c error same e claims errs =
+  pub accepted_line : (cs : List Contract) (c : Claim) → b.contracts ≡ cs → Accepted ≡ answer b (Judge n bs) → claim_in (Ok c) ≡ claiming cs bs →
+      LineOf (key_parts c.key) (is_error c.action) ≡ mark_in b (Judge n bs)
+  accepted_line cs c same e claims =
       let x : Told = told_by b.contracts bs in
       let q : claim_of c ≡ claimed_by x = claim_said_of (claimed_by x) c (first_fit looking_rows (bs, x)) (none_looks e) (claims ∙ ap (λ l. claiming l bs) (sym same)) in
-      ap (LineOf (key_parts c.key)) errs
-      ∙ ap (λ y. LineOf y.of_key (is_error y.acts)) q
+      ap (λ y. LineOf y.of_key (is_error y.acts)) q
       ∙ ap (marked (subject b.contracts (Judge n bs))) (sym (accepted_none (verdict b (Judge n bs)) e))
 
   pub no_claim : (cs : List Contract) (x : LineFault) → b.contracts ≡ cs → Accepted ≡ answer b (Judge n bs) → claim_in (Err x) ≡ claiming cs bs → ⊥
