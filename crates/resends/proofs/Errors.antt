@@ -3,6 +3,7 @@ use Rattle.std.proofs.Common.{◌≡◌, ℕ, ◌+◌, ◌≤◌, ◌<◌, Bool,
 use Rattle.std.specs.Ordering.{is_eq}
 use Rattle.std.specs.BTreeMap.{BTreeMap, get, IsEmpty}
 use lib.ListN.{length-map}
+use Rattle.std.proofs.Math.Bool.{or-false, or_assoc}
 use Rattle.std.proofs.lemmas.List.{drop_all, drop-append-le, length-take-le, map_more}
 use Rattle.std.proofs.lemmas.Bool.{cases_lt, lt-leb, or_right}
 use Rattle.text.specs.declared.words.Action.{Action}
@@ -31,19 +32,11 @@ equal_keys a b = by (key_ord.ghosts.cmp a b) (same_key (key_parts a) (key_parts 
     by Equal false e same = absurd (true≢false (sym (equal e) ∙ same))
     by Greater false e same = refl
 
-or_false : (b : Bool) → (b || false) ≡ b
-or_false true = refl
-or_false false = refl
-
-or_assoc : (a b c : Bool) → (a || (b || c)) ≡ ((a || b) || c)
-or_assoc true b c = refl
-or_assoc false b c = refl
-
 -- the marks with one more, from a place on
 module _ (k : KeyParts) (m : MarkParts) where
   struck_push : (xs : List MarkParts) → struck_in k (xs ++ m ∷ []) ≡ (struck_in k xs || strikes_at k m)
-  struck_push [] = or_false (strikes_at k m)
-  struck_push (x ∷ xs) = ap (λ b. strikes_at k x || b) (struck_push xs) ∙ or_assoc (strikes_at k x) (struck_in k xs) (strikes_at k m)
+  struck_push [] = or-false (strikes_at k m)
+  struck_push (x ∷ xs) = ap (λ b. strikes_at k x || b) (struck_push xs) ∙ sym (or_assoc (strikes_at k x) (struck_in k xs) (strikes_at k m))
 
   near : (xs : List MarkParts) (from : ℕ) → from ≤ length xs → struck_in k (drop from (xs ++ m ∷ [])) ≡ (struck_in k (drop from xs) || strikes_at k m)
   near xs from le = ap (struck_in k) (drop-append-le from xs (m ∷ []) le) ∙ struck_push (drop from xs)
@@ -54,16 +47,13 @@ module _ (k : KeyParts) (m : MarkParts) where
 far_before : (k : KeyParts) (xs : List MarkParts) (from : ℕ) → length xs < from → struck_in k (drop from xs) ≡ false
 far_before k xs from gt = ap (struck_in k) (drop_all from xs (omega (arith, gt)))
 
-pub no_errors : (last : BTreeMap Key ℕ) → IsEmpty last → LastErrors [] last
-no_errors last empty k from = rw empty (ap (struck_in (key_parts k)) (drop_all from [] (omega arith)))
-
 module _ (xs : List MarkParts) (last : BTreeMap Key ℕ) (was : LastErrors xs last) where
   -- a mark more that is no Error
   pub errors_same : (m : MarkParts) → ((k : KeyParts) → strikes_at k m ≡ false) → LastErrors (xs ++ m ∷ []) last
   errors_same m none k from =
       ⊎_elim
       (λ gt. far (key_parts k) m xs from gt ∙ sym (far_before (key_parts k) xs from gt) ∙ was k from)
-      (λ le. near (key_parts k) m xs from le ∙ ap (λ b. struck_in (key_parts k) (drop from xs) || b) (none (key_parts k)) ∙ or_false _ ∙ was k from)
+      (λ le. near (key_parts k) m xs from le ∙ ap (λ b. struck_in (key_parts k) (drop from xs) || b) (none (key_parts k)) ∙ or-false _ ∙ was k from)
       (cases_lt (length xs) from)
 
   -- an Error more, whose place goes to its key
@@ -92,7 +82,7 @@ module _ (xs : List MarkParts) (last : BTreeMap Key ℕ) (was : LastErrors xs la
         where
           by : (b : Bool) → (struck_in (key_parts k) (drop from xs) || b) ≡ stands_from from (cond b (Some (length xs)) old)
           by true = or_right _ true refl ∙ sym (le-leb from (length xs) le)
-          by false = or_false _ ∙ was k from
+          by false = or-false _ ∙ was k from
 
 -- ---- The loop over the marks
 
