@@ -1,7 +1,8 @@
 -- A map with the place of the last accepted Error of each key.
-use Rattle.std.proofs.Common.{◌≡◌, ℕ, ◌+◌, ◌≤◌, ◌<◌, Bool, true, false, cond, ◌&&◌, ◌||◌, List, [], ◌∷◌, ◌++◌, length, take, drop, Some, None, Option, Ordering, Less, Equal, Greater, sym, refl, ap, ◌∙◌, ⊎_elim, true≢false, arith, length-append, le-leb, get_or, subst}
+use Rattle.std.proofs.Common.{leb, ◌≡◌, ℕ, ◌+◌, ◌≤◌, ◌<◌, Bool, true, false, cond, ◌&&◌, ◌||◌, List, [], ◌∷◌, ◌++◌, length, take, drop, Some, Option, Ordering, Less, Equal, Greater, sym, refl, ap, ◌∙◌, ⊎_elim, true≢false, arith, length-append, le-leb, get_or, subst}
 use Rattle.std.specs.Ordering.{is_eq}
-use Rattle.std.specs.BTreeMap.{BTreeMap, get, IsEmpty}
+use Rattle.std.specs.Option.{option_map_or}
+use Rattle.std.specs.BTreeMap.{BTreeMap, get}
 use lib.ListN.{length-map}
 use Rattle.std.proofs.Math.Bool.{or-false, or_assoc}
 use Rattle.std.proofs.lemmas.List.{drop_all, drop-append-le, length-take-le, map_more}
@@ -17,7 +18,7 @@ use Rattle.life.specs.Rules.{is_error}
 use Rattle.life.proofs.KeyOrder.{cmp_is, key_from, parts_eq, parts_same, strict}
 use Rattle.resends.specs.declared.mark.Mark.{Mark}
 use Rattle.resends.specs.declared.mark.Mark.TheVariants.{NoLine, Refused, Accepted}
-use Rattle.resends.specs.Marks.{MarkParts, LineOf, mark_parts, marks_in, strikes_at, struck_in, stands_from, LastErrors}
+use Rattle.resends.specs.Marks.{MarkParts, LineOf, mark_parts, marks_in, strikes_at, struck_in, LastErrors}
 
 -- two keys compare Equal exactly where they have the same parts
 equal_keys : (a b : Key) → is_eq (key_ord.ghosts.cmp a b) ≡ same_key (key_parts a) (key_parts b)
@@ -59,7 +60,7 @@ module _ (xs : List MarkParts) (last : BTreeMap Key ℕ) (was : LastErrors xs la
   -- an Error more, whose place goes to its key
   pub errors_more : (next : BTreeMap Key ℕ) (q : Key) → ((k : Key) → get key_ord.ghosts.cmp next k ≡ cond (is_eq (key_ord.ghosts.cmp q k)) (Some (length xs)) (get key_ord.ghosts.cmp last k)) →
       LastErrors (xs ++ LineOf (key_parts q) true ∷ []) next
-  errors_more next q gets k from = ⊎_elim after here (cases_lt (length xs) from) ∙ ap (stands_from from) (sym (gets k))
+  errors_more next q gets k from = ⊎_elim after here (cases_lt (length xs) from) ∙ ap (λ o. option_map_or (leb from) o false) (sym (gets k))
     where
       m : MarkParts
       m = LineOf (key_parts q) true
@@ -67,20 +68,20 @@ module _ (xs : List MarkParts) (last : BTreeMap Key ℕ) (was : LastErrors xs la
       old : Option ℕ
       old = get key_ord.ghosts.cmp last k
 
-      after : length xs < from → struck_in (key_parts k) (drop from (xs ++ m ∷ [])) ≡ stands_from from (cond (is_eq (key_ord.ghosts.cmp q k)) (Some (length xs)) old)
+      after : length xs < from → struck_in (key_parts k) (drop from (xs ++ m ∷ [])) ≡ option_map_or (leb from) (cond (is_eq (key_ord.ghosts.cmp q k)) (Some (length xs)) old) false
       after gt = far (key_parts k) m xs from gt ∙ by (is_eq (key_ord.ghosts.cmp q k))
         where
-          by : (b : Bool) → false ≡ stands_from from (cond b (Some (length xs)) old)
+          by : (b : Bool) → false ≡ option_map_or (leb from) (cond b (Some (length xs)) old) false
           by true = sym (lt-leb from (length xs) gt)
           by false = sym (far_before (key_parts k) xs from gt) ∙ was k from
 
-      here : from ≤ length xs → struck_in (key_parts k) (drop from (xs ++ m ∷ [])) ≡ stands_from from (cond (is_eq (key_ord.ghosts.cmp q k)) (Some (length xs)) old)
+      here : from ≤ length xs → struck_in (key_parts k) (drop from (xs ++ m ∷ [])) ≡ option_map_or (leb from) (cond (is_eq (key_ord.ghosts.cmp q k)) (Some (length xs)) old) false
       here le =
           near (key_parts k) m xs from le
           ∙ ap (λ b. struck_in (key_parts k) (drop from xs) || b) (sym (equal_keys q k))
           ∙ by (is_eq (key_ord.ghosts.cmp q k))
         where
-          by : (b : Bool) → (struck_in (key_parts k) (drop from xs) || b) ≡ stands_from from (cond b (Some (length xs)) old)
+          by : (b : Bool) → (struck_in (key_parts k) (drop from xs) || b) ≡ option_map_or (leb from) (cond b (Some (length xs)) old) false
           by true = or_right _ true refl ∙ sym (le-leb from (length xs) le)
           by false = or-false _ ∙ was k from
 

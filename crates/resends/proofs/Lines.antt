@@ -1,5 +1,5 @@
 -- The mark of a call, from its answer and the contracts listed.
-use Rattle.std.proofs.Common.{◌≡◌, ℕ, Bool, List, Some, None, Ok, Err, Option, sym, refl, ap, ◌∙◌, arith, Bor}
+use Rattle.std.proofs.Common.{◌≡◌, ℕ, List, Some, None, Ok, Err, Option, sym, refl, ap, ◌∙◌, arith, Bor}
 use Rattle.text.specs.Bytes.{Bytes}
 use Rattle.text.specs.Rows.{first_fit, settled_by}
 use Rattle.contract.specs.ContractList.{Contract, Told}
@@ -10,7 +10,7 @@ use Rattle.claims.specs.declared.claimed.Claim.{Claim}
 use Rattle.claims.specs.declared.faults.LineFault.{LineFault}
 use Rattle.claims.specs.Claims.{Claimed, claimed_by, claiming}
 use Rattle.claims.specs.Made.{claim_of, claim_in}
-use Rattle.book.specs.Book.{Book, AddContract, Judge, Accepted, told_by, looking_rows, verdict, changed, answered, answer}
+use Rattle.book.specs.Book.{Book, Judge, Accepted, told_by, looking_rows, verdict, changed, answered, answer}
 use Rattle.book.specs.Laws.{subject}
 use Rattle.book.proofs.Tables.{Passed, passed, looking_parts}
 use Rattle.calls.specs.declared.answer.Answer.{Answer as Spoken}

@@ -1,6 +1,7 @@
 -- What the log of a run tells of lives, call by call.
 use Rattle.std.specs.Prelude.{◌≡◌, ℕ, Bool, true, false, cond, ◌&&◌, ◌||◌, List, [], ◌∷◌, map, drop, Some, None, Option, nat_le}
 use Rattle.std.specs.BTreeMap.{BTreeMap, get}
+use Rattle.std.specs.Option.{option_map_or}
 use Rattle.life.specs.declared.key.Key.{Key}
 use Rattle.life.specs.contracts.key.KeyOrd.TheImpl as key_ord
 use Rattle.life.specs.Parts.{KeyParts, key_parts}
@@ -58,14 +59,9 @@ kept_calls (c ∷ cs) (m ∷ ms) = cond (leaves_out (m ∷ ms) m) (kept_calls cs
 
 -- ---- Where the last Errors stand
 
--- whether there is a place, at `from` or later
-abbrev pub stands_from : ℕ → Option ℕ → Bool
-stands_from from None = false
-stands_from from (Some place) = nat_le from place
-
--- the map has the place of the last accepted Error of each key
+-- the map has at each key the place of its last accepted Error: there is one at a place or later exactly where the map's is
 abbrev pub LastErrors : List MarkParts → BTreeMap Key ℕ → Type 0
-LastErrors ms last = (k : Key) (from : ℕ) → struck_in (key_parts k) (drop from ms) ≡ stands_from from (get key_ord.ghosts.cmp last k)
+LastErrors ms last = (k : Key) (from : ℕ) → struck_in (key_parts k) (drop from ms) ≡ option_map_or (nat_le from) (get key_ord.ghosts.cmp last k) false
 
 -- ---- The mark of one call
 

@@ -1,8 +1,7 @@
-use Rattle.std.proofs.Common.{◌≡◌, ℕ, List, map, vec_items, ap, ◌∙◌, rules, tests}
-use Rattle.std.specs.List.{zip, enumerate_from, filter_map}
+use Rattle.std.proofs.Common.{ap, ◌∙◌, rules, tests}
 use Rattle.std.proofs.lemmas.Result.{IfOk-weaker, IfOk-at_ok}
 use Rattle.std.proofs.lemmas.Iterator.{items_from_collect, YieldsList-from_slice, YieldsList-from_zip}
-use Rattle.std.proofs.lemmas.Iterator.Consumers.{YieldsList-at, YieldsList-from_enumerate, YieldsList-from_filter_map}
+use Rattle.std.proofs.lemmas.Iterator.Consumers.{YieldsList-from_enumerate, YieldsList-from_filter_map}
 use Rattle.calls.specs.Said.{calls_said}
 use Rattle.resends.specs.Marks.{marks_in, LastErrors}
 use Rattle.resends.proofs.Marking.{kept_at, kept_all}
