@@ -50,7 +50,7 @@ far_before k xs from gt = ap (struck_in k) (drop_all from xs (omega (arith, gt))
 
 module _ (xs : List MarkParts) (last : BTreeMap Key ℕ) (was : LastErrors xs last) where
   -- a mark more that is no Error
-  pub errors_same : (m : MarkParts) → ((k : KeyParts) → strikes_at k m ≡ false) → LastErrors (xs ++ m ∷ []) last
+  errors_same : (m : MarkParts) → ((k : KeyParts) → strikes_at k m ≡ false) → LastErrors (xs ++ m ∷ []) last
   errors_same m none k from =
       ⊎_elim
       (λ gt. far (key_parts k) m xs from gt ∙ sym (far_before (key_parts k) xs from gt) ∙ was k from)
@@ -58,7 +58,7 @@ module _ (xs : List MarkParts) (last : BTreeMap Key ℕ) (was : LastErrors xs la
       (cases_lt (length xs) from)
 
   -- an Error more, whose place goes to its key
-  pub errors_more : (next : BTreeMap Key ℕ) (q : Key) → ((k : Key) → get key_ord.ghosts.cmp next k ≡ cond (is_eq (key_ord.ghosts.cmp q k)) (Some (length xs)) (get key_ord.ghosts.cmp last k)) →
+  errors_more : (next : BTreeMap Key ℕ) (q : Key) → ((k : Key) → get key_ord.ghosts.cmp next k ≡ cond (is_eq (key_ord.ghosts.cmp q k)) (Some (length xs)) (get key_ord.ghosts.cmp last k)) →
       LastErrors (xs ++ LineOf (key_parts q) true ∷ []) next
   errors_more next q gets k from = ⊎_elim after here (cases_lt (length xs) from) ∙ ap (λ o. option_map_or (leb from) o false) (sym (gets k))
     where

@@ -1,5 +1,5 @@
 // The marks of a run: what each of its calls had to do with lives.
-ghost use Rattle.std.specs.Prelude.{◌≡◌, ℕ, length};
+ghost use Rattle.std.specs.Prelude.{◌≡◌, ℕ};
 ghost use Rattle.book.specs.Book.{Book, Judge as JudgeCall, answer as book_answer};
 ghost use Rattle.calls.specs.Said.{call_said, answer_said};
 ghost use Rattle.resends.specs.Marks.{mark_parts, mark_in, MarksCall};
