@@ -1,3 +1,4 @@
+pub mod Errors
 pub mod Lines
 pub mod Marking
 pub mod Resending

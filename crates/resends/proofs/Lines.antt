@@ -1,5 +1,5 @@
 -- The mark of a call, from its answer and the contracts listed.
-use Rattle.std.proofs.Common.{◌≡◌, ℕ, Bool, List, Some, None, Ok, Err, Option, sym, refl, ap, ◌∙◌, arith, Bor}
+use Rattle.std.proofs.Common.{◌≡◌, ℕ, List, Some, None, Ok, Err, Option, sym, refl, ap, ◌∙◌, arith, Bor}
 use Rattle.text.specs.Bytes.{Bytes}
 use Rattle.text.specs.Rows.{first_fit, settled_by}
 use Rattle.contract.specs.ContractList.{Contract, Told}
@@ -10,9 +10,8 @@ use Rattle.claims.specs.declared.claimed.Claim.{Claim}
 use Rattle.claims.specs.declared.faults.LineFault.{LineFault}
 use Rattle.claims.specs.Claims.{Claimed, claimed_by, claiming}
 use Rattle.claims.specs.Made.{claim_of, claim_in}
-use Rattle.book.specs.Book.{Book, AddContract, Judge, Accepted, told_by, looking_rows, verdict, changed, answered, answer}
+use Rattle.book.specs.Book.{Book, Judge, Accepted, told_by, looking_rows, verdict, changed, answered, answer}
 use Rattle.book.specs.Laws.{subject}
-use Rattle.book.proofs.Runs.{contracts_after}
 use Rattle.book.proofs.Tables.{Passed, passed, looking_parts}
 use Rattle.calls.specs.declared.answer.Answer.{Answer as Spoken}
 use Rattle.calls.specs.declared.answer.Answer.TheVariants as spoken
@@ -26,13 +25,13 @@ module _ (b : Book) (n : ℕ) (bs : Bytes) where
   -- an accepted line is fitted by no row
   accepted_none : (v : Option (ℕ × ℕ)) → Accepted ≡ answered b (Judge n bs) v → v ≡ None
   accepted_none None e = refl
-  accepted_none (Some r) e = let z : ◌≡◌ {A = ℕ} 0 1 = cc in absurd (omega arith)
+  accepted_none (Some r) e = cc
 
   said_accepted : (x : Spoken) → answer_said x ≡ Accepted → x ≡ spoken.Accepted
   said_accepted spoken.Accepted e = refl
-  said_accepted (spoken.Refused r) e = let z : ◌≡◌ {A = ℕ} 0 1 = cc in absurd (omega arith)
-  said_accepted (spoken.Receipt r) e = let z : ◌≡◌ {A = ℕ} 0 1 = cc in absurd (omega arith)
-  said_accepted (spoken.Found o) e = let z : ◌≡◌ {A = ℕ} 0 1 = cc in absurd (omega arith)
+  said_accepted (spoken.Refused r) e = cc
+  said_accepted (spoken.Receipt r) e = cc
+  said_accepted (spoken.Found o) e = cc
 
   pub refused_line : (x : Spoken) → (x ≡ spoken.Accepted → ⊥) → answer_said x ≡ answer b (Judge n bs) → RefusedLine ≡ mark_in b (Judge n bs)
   refused_line x no-accept e = by (verdict b (Judge n bs)) e
@@ -48,19 +47,18 @@ module _ (b : Book) (n : ℕ) (bs : Bytes) where
 
   claim_said_of : (v : Claimed) (c : Claim) (o : Option (ℕ × ℕ)) → o ≡ None → claim_in (Ok c) ≡ settled_by bs v o → claim_of c ≡ v
   claim_said_of v c None h e = cc
-  claim_said_of v c (Some r) h e = let z : ◌≡◌ {A = ℕ} 0 1 = cc in absurd (omega arith)
+  claim_said_of v c (Some r) h e = cc
 
   no_fault : (v : Claimed) (x : LineFault) (o : Option (ℕ × ℕ)) → o ≡ None → claim_in (Err x) ≡ settled_by bs v o → ⊥
   no_fault v x None h e = let z : ◌≡◌ {A = ℕ} 0 1 = cc in omega arith
   no_fault v x (Some r) h e = let z : ◌≡◌ {A = ℕ} 0 1 = cc in omega arith
 
-  pub accepted_line : (cs : List Contract) (c : Claim) (error : Bool) → b.contracts ≡ cs → Accepted ≡ answer b (Judge n bs) → claim_in (Ok c) ≡ claiming cs bs → error ≡ is_error c.action →
-      LineOf (key_parts c.key) error ≡ mark_in b (Judge n bs)
-  accepted_line cs c error same e claims errs =
+  pub accepted_line : (cs : List Contract) (c : Claim) → b.contracts ≡ cs → Accepted ≡ answer b (Judge n bs) → claim_in (Ok c) ≡ claiming cs bs →
+      LineOf (key_parts c.key) (is_error c.action) ≡ mark_in b (Judge n bs)
+  accepted_line cs c same e claims =
       let x : Told = told_by b.contracts bs in
       let q : claim_of c ≡ claimed_by x = claim_said_of (claimed_by x) c (first_fit looking_rows (bs, x)) (none_looks e) (claims ∙ ap (λ l. claiming l bs) (sym same)) in
-      ap (LineOf (key_parts c.key)) errs
-      ∙ ap (λ y. LineOf y.of_key (is_error y.acts)) q
+      ap (λ y. LineOf y.of_key (is_error y.acts)) q
       ∙ ap (marked (subject b.contracts (Judge n bs))) (sym (accepted_none (verdict b (Judge n bs)) e))
 
   pub no_claim : (cs : List Contract) (x : LineFault) → b.contracts ≡ cs → Accepted ≡ answer b (Judge n bs) → claim_in (Err x) ≡ claiming cs bs → ⊥
@@ -71,38 +69,28 @@ module _ (b : Book) (n : ℕ) (bs : Bytes) where
 
 -- a call that is neither an added contract nor a judged line has no mark, and leaves the contracts
 pub other_call : (x : Asked) (b : Book) (cs : List Contract) → ((t : Bor (List ℕ)) → x ≡ asked.AddContract t → ⊥) → ((n : ℕ) (t : Bor (List ℕ)) → x ≡ asked.Judge n t → ⊥) → b.contracts ≡ cs → MarksCall b (call_said x) NoReportLine cs
-other_call x b cs no_add no-judge same = record { marks = marks_so x no_add no-judge; lists = sym same ∙ lists_so x no_add no-judge (verdict b (call_said x)) }
+other_call x b cs no_add no-judge same =
+    let so = by x no_add no-judge (verdict b (call_said x)) in
+    record { marks = so.0; lists = sym same ∙ so.1 }
   where
-    marks_so : (x : Asked) → ((t : Bor (List ℕ)) → x ≡ asked.AddContract t → ⊥) → ((n : ℕ) (t : Bor (List ℕ)) → x ≡ asked.Judge n t → ⊥) → NoReportLine ≡ mark_in b (call_said x)
-    marks_so (asked.AddEntity t) p q = refl
-    marks_so (asked.AddContract t) p q = refl
-    marks_so (asked.NameFile t) p q = refl
-    marks_so (asked.Identify n t) p q = refl
-    marks_so (asked.Withdraw n) p q = refl
-    marks_so (asked.Close n) p q = refl
-    marks_so (asked.Judge n t) p q = absurd (q n t refl)
-    marks_so (asked.LookUp t) p q = refl
-    marks_so asked.Total p q = refl
-
-    lists_so : (x : Asked) → ((t : Bor (List ℕ)) → x ≡ asked.AddContract t → ⊥) → ((n : ℕ) (t : Bor (List ℕ)) → x ≡ asked.Judge n t → ⊥) → (v : Option (ℕ × ℕ)) → b.contracts ≡ (changed b (call_said x) v).contracts
-    lists_so (asked.AddEntity t) p q None = refl
-    lists_so (asked.AddContract t) p q None = absurd (p t refl)
-    lists_so (asked.NameFile t) p q None = refl
-    lists_so (asked.Identify n t) p q None = refl
-    lists_so (asked.Withdraw n) p q None = refl
-    lists_so (asked.Close n) p q None = refl
-    lists_so (asked.Judge n t) p q None = refl
-    lists_so (asked.LookUp t) p q None = refl
-    lists_so asked.Total p q None = refl
-    lists_so (asked.AddEntity t) p q (Some r) = refl
-    lists_so (asked.AddContract t) p q (Some r) = refl
-    lists_so (asked.NameFile t) p q (Some r) = refl
-    lists_so (asked.Identify n t) p q (Some r) = refl
-    lists_so (asked.Withdraw n) p q (Some r) = refl
-    lists_so (asked.Close n) p q (Some r) = refl
-    lists_so (asked.Judge n t) p q (Some r) = refl
-    lists_so (asked.LookUp t) p q (Some r) = refl
-    lists_so asked.Total p q (Some r) = refl
+    by : (x : Asked) → ((t : Bor (List ℕ)) → x ≡ asked.AddContract t → ⊥) → ((n : ℕ) (t : Bor (List ℕ)) → x ≡ asked.Judge n t → ⊥) → (v : Option (ℕ × ℕ)) →
+        (NoReportLine ≡ marked (subject b.contracts (call_said x)) v) × (b.contracts ≡ (changed b (call_said x) v).contracts)
+    by (asked.AddContract t) no_add no-judge v = absurd (no_add t refl)
+    by (asked.Judge n t) no_add no-judge v = absurd (no-judge n t refl)
+    by (asked.AddEntity t) no_add no-judge None = (refl, refl)
+    by (asked.AddEntity t) no_add no-judge (Some r) = (refl, refl)
+    by (asked.NameFile t) no_add no-judge None = (refl, refl)
+    by (asked.NameFile t) no_add no-judge (Some r) = (refl, refl)
+    by (asked.Identify n t) no_add no-judge None = (refl, refl)
+    by (asked.Identify n t) no_add no-judge (Some r) = (refl, refl)
+    by (asked.Withdraw n) no_add no-judge None = (refl, refl)
+    by (asked.Withdraw n) no_add no-judge (Some r) = (refl, refl)
+    by (asked.Close n) no_add no-judge None = (refl, refl)
+    by (asked.Close n) no_add no-judge (Some r) = (refl, refl)
+    by (asked.LookUp t) no_add no-judge None = (refl, refl)
+    by (asked.LookUp t) no_add no-judge (Some r) = (refl, refl)
+    by asked.Total no_add no-judge None = (refl, refl)
+    by asked.Total no_add no-judge (Some r) = (refl, refl)
 
 pub judged_call : (b : Book) (n : ℕ) (bs : Bytes) (m : MarkParts) (cs : List Contract) → b.contracts ≡ cs → m ≡ mark_in b (Judge n bs) → MarksCall b (Judge n bs) m cs
 judged_call b n bs m cs same e = record { marks = e; lists = sym same ∙ by (verdict b (Judge n bs)) }
@@ -110,6 +98,3 @@ judged_call b n bs m cs same e = record { marks = e; lists = sym same ∙ by (ve
     by : (v : Option (ℕ × ℕ)) → b.contracts ≡ (changed b (Judge n bs) v).contracts
     by None = refl
     by (Some r) = refl
-
-pub added_call : (b : Book) (bs : Bytes) (cs next : List Contract) → b.contracts ≡ cs → next ≡ contract_list.added cs bs → MarksCall b (AddContract bs) NoReportLine next
-added_call b bs cs next same e = record { marks = refl; lists = e ∙ ap (λ l. contract_list.added l bs) (sym same) ∙ sym (ap (λ d. d.contracts) (contracts_after bs b)) }

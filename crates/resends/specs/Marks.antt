@@ -1,8 +1,11 @@
 -- What the log of a run tells of lives, call by call.
-use Rattle.std.specs.Prelude.{◌≡◌, ℕ, ◌%◌, ◌<◌, Bool, true, false, cond, ◌&&◌, ◌||◌, List, [], ◌∷◌, map, length, Some, None, Option, slice_index, slice_index_or, slice_set}
+use Rattle.std.specs.Prelude.{◌≡◌, ℕ, Bool, true, false, cond, ◌&&◌, ◌||◌, List, [], ◌∷◌, map, drop, Some, None, Option, nat_le}
+use Rattle.std.specs.BTreeMap.{BTreeMap, get}
+use Rattle.std.specs.Option.{option_map_or}
+use Rattle.life.specs.declared.key.Key.{Key}
+use Rattle.life.specs.contracts.key.KeyOrd.TheImpl as key_ord
 use Rattle.life.specs.Parts.{KeyParts, key_parts}
 use Rattle.life.specs.Keys.{same_key}
-use Rattle.life.specs.Fnv.{word_of}
 use Rattle.life.specs.Rules.{is_error}
 use Rattle.contract.specs.ContractList.{Contract}
 use Rattle.book.specs.Book.{Book, Call, verdict, after}
@@ -18,7 +21,7 @@ pub data MarkParts : Type 0 where
 abbrev pub mark_parts : Mark → MarkParts
 mark_parts NoLine = NoReportLine
 mark_parts Refused = RefusedLine
-mark_parts (Accepted key error) = LineOf (key_parts key) error
+mark_parts (Accepted key action) = LineOf (key_parts key) (is_error action)
 
 abbrev pub marks_in : List Mark → List MarkParts
 marks_in = map mark_parts
@@ -54,22 +57,11 @@ kept_calls [] ms = []
 kept_calls (c ∷ cs) [] = []
 kept_calls (c ∷ cs) (m ∷ ms) = cond (leaves_out (m ∷ ms) m) (kept_calls cs ms) (c ∷ kept_calls cs ms)
 
--- ---- Where the last Errors stand, by the words of their keys' ids
+-- ---- Where the last Errors stand
 
--- for each remainder of a word, one more than the place of the last Error noted, or 0 for none
-abbrev pub place_of : KeyParts → List ℕ → ℕ
-place_of k last = word_of k.of_id % length last
-
--- an Error is noted; other marks are not
-abbrev pub noted : MarkParts → ℕ → List ℕ → List ℕ
-noted NoReportLine reach last = last
-noted RefusedLine reach last = last
-noted (LineOf k true) reach last = slice_set last (place_of k last) reach
-noted (LineOf k false) reach last = last
-
--- each Error among the first n marks stands before what is noted for its key
-abbrev pub Reaches : ℕ → List MarkParts → List ℕ → Type 0
-Reaches n ms last = (j : ℕ) (k : KeyParts) → j < n → slice_index_or ms j NoReportLine ≡ LineOf k true → j < slice_index last (place_of k last)
+-- the map has at each key the place of its last accepted Error: there is one at a place or later exactly where the map's is
+abbrev pub LastErrors : List MarkParts → BTreeMap Key ℕ → Type 0
+LastErrors ms last = (k : Key) (from : ℕ) → struck_in (key_parts k) (drop from ms) ≡ option_map_or (nat_le from) (get key_ord.ghosts.cmp last k) false
 
 -- ---- The mark of one call
 

@@ -1,5 +1,6 @@
 // What a call of a run has to do with lives.
 use life::Key;
+use text::Action;
 
 #[derive(Clone, Copy)]
 pub enum Mark {
@@ -7,6 +8,6 @@ pub enum Mark {
     NoLine,
     // it judged a line, which was refused
     Refused,
-    // it judged a line of this key, which was accepted, and which was an Error or not
-    Accepted { key: Key, error: bool },
+    // it judged a line of this key, which was accepted, and what the line did
+    Accepted { key: Key, action: Action },
 }

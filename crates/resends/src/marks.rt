@@ -1,6 +1,5 @@
 // The marks of a run: what each of its calls had to do with lives.
-ghost use Rattle.std.specs.Prelude.{◌≡◌, ℕ, length};
-ghost use Rattle.life.specs.Rules.{is_error as an_error};
+ghost use Rattle.std.specs.Prelude.{◌≡◌, ℕ};
 ghost use Rattle.book.specs.Book.{Book, Judge as JudgeCall, answer as book_answer};
 ghost use Rattle.calls.specs.Said.{call_said, answer_said};
 ghost use Rattle.resends.specs.Marks.{mark_parts, mark_in, MarksCall};
@@ -9,17 +8,6 @@ use crate::mark::Mark;
 use calls::{Answer, Call};
 use claims::claim;
 use contract::ContractList;
-use std::alloc::{AllocError, Global};
-use text::Action;
-
-fn is_error(action: Action) -> bool
-    ensures { result ≡ an_error action }
-{
-    match action {
-        Action::Error => true,
-        _ => false,
-    }
-}
 
 // The mark of a judged line with its answer.
 fn line_mark(contracts: &ContractList, line: &[u8], answer: &Answer) -> Mark
@@ -31,7 +19,7 @@ fn line_mark(contracts: &ContractList, line: &[u8], answer: &Answer) -> Mark
     match claim(contracts, line) {
         Ok(claim) => Mark::Accepted {
             key: claim.key,
-            error: is_error(claim.action),
+            action: claim.action,
         },
         Err(_) => Mark::Refused,
     }

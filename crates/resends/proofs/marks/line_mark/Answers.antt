@@ -8,7 +8,7 @@ returns-in_default c b n same e = refused_line b n c.args.line.now c.args.answer
 
 pub returns-in-Ok : goal.returns-in-Ok
 returns-in-Ok c b n same e =
-    accepted_line b n c.args.line.now c.args.contracts.now c.in-Ok.claim c.is_error.result same (sym (ap answer_said c.in-Accepted.is) ∙ e) c.in-Ok.ensures c.is_error.ensures
+    accepted_line b n c.args.line.now c.args.contracts.now c.in-Ok.claim same (sym (ap answer_said c.in-Accepted.is) ∙ e) c.in-Ok.ensures
 
 pub returns-in-Err : goal.returns-in-Err
 returns-in-Err c b n same e =

@@ -1,6 +1,6 @@
-use Rattle.std.proofs.Common.{◌<◌, length, vec_items}
-use Rattle.resends.specs.Marks.{marks_in, Reaches}
+use Rattle.std.proofs.Common.{take}
+use Rattle.resends.specs.Marks.{marks_in, LastErrors}
 use Rattle.resends.proofs.survivors.last_errors.Given as goal
 
-abbrev pub invariant-loop-i : goal.invariant-loop-i
-invariant-loop-i l = (0 < length (vec_items l.last)) × Reaches l.i (marks_in l.marks) (vec_items l.last)
+abbrev pub invariant-loop-place : goal.invariant-loop-place
+invariant-loop-place l = LastErrors (marks_in (take l.place l.marks)) l.last
