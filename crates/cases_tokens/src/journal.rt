@@ -24,6 +24,22 @@ pub enum Event {
     Position(i64),
 }
 
+fn write_counts<W: fmt::Write>(
+    f: &mut fmt::Formatter<W>,
+    ended: &str,
+    receipt: Receipt,
+) -> fmt::Result {
+    let Receipt {
+        judged,
+        accepted,
+        refused,
+    } = receipt;
+    write!(
+        f,
+        "{ended}: {judged} judged, {accepted} accepted, {refused} refused"
+    )
+}
+
 impl fmt::Display for Event {
     fn fmt<W: fmt::Write>(&self, f: &mut fmt::Formatter<W>) -> fmt::Result {
         match *self {
@@ -41,28 +57,8 @@ impl fmt::Display for Event {
             Event::Refused { number, field, at } => {
                 write!(f, "line refused {number} field {field} offset {at}")
             }
-            Event::Closed(receipt) => {
-                let Receipt {
-                    judged,
-                    accepted,
-                    refused,
-                } = receipt;
-                write!(
-                    f,
-                    "closed: {judged} judged, {accepted} accepted, {refused} refused"
-                )
-            }
-            Event::Withdrawn(receipt) => {
-                let Receipt {
-                    judged,
-                    accepted,
-                    refused,
-                } = receipt;
-                write!(
-                    f,
-                    "withdrawn: {judged} judged, {accepted} accepted, {refused} refused"
-                )
-            }
+            Event::Closed(receipt) => write_counts(f, "closed", receipt),
+            Event::Withdrawn(receipt) => write_counts(f, "withdrawn", receipt),
             Event::NotEnded(number) => write!(f, "not ended: refused {number}"),
             Event::Position(sum) => write!(f, "position of contract 1: {sum}"),
         }

@@ -1,6 +1,5 @@
 -- Index names in a list of texts.
-use Rattle.std.proofs.Common.{◌≡◌, ℕ, ◌+◌, ◌<◌, ◌≤◌, true, ◌&&◌, leb, List, [], ◌∷◌, ◌++◌, length, take, set, is_some, Some, None, Option, sym, refl, ap, ◌∙◌, append_assoc, arith}
-use Rattle.std.proofs.lemmas.List.{take_more_set}
+use Rattle.std.proofs.Common.{◌≡◌, ℕ, ◌≤◌, true, ◌&&◌, leb, List, [], ◌∷◌, ◌++◌, length, is_some, Some, None, Option, sym, refl, ap, ◌∙◌, append_assoc, arith}
 use Rattle.std.proofs.lemmas.Bool.{and_parts}
 use Rattle.std.proofs.lemmas.Bool.Decides.{nat_tests}
 use Rattle.text.specs.declared.bounded.Text.{Text}
@@ -25,12 +24,11 @@ text_kept o t s e f = let g : Some (text_of t) ≡ Some s = ap text_in (sym e) �
 pub name_short : (s : Bytes) → a_name s ≡ true → length s ≤ 32
 name_short s e = let p = (and_parts (between 1 32 (length s)) _ e).0 in grind (arith, nat_tests)
 
--- one name more in its place
-pub one_more : (ts : List (Text 32)) (count : ℕ) (x : Text 32) (t : Bytes) (ns more all : List Bytes)
-    → count < length ts → text_of x ≡ t → ns ≡ t ∷ more → texts_of (take count ts) ++ ns ≡ all
-    → texts_of (take (count + 1) (set ts count x)) ++ more ≡ all
-one_more ts count x t ns more all l e f h =
-    (λ i. texts_push (take count ts) (take (count + 1) (set ts count x)) x t (take_more_set ts count x l) e i ++ more)
-    ∙ append_assoc (texts_of (take count ts)) (t ∷ []) more
-    ∙ ap (λ k. texts_of (take count ts) ++ k) (sym f)
+-- one name more at the end
+pub one_more : (ts us : List (Text 32)) (x : Text 32) (t : Bytes) (ns more all : List Bytes)
+    → us ≡ ts ++ x ∷ [] → text_of x ≡ t → ns ≡ t ∷ more → texts_of ts ++ ns ≡ all → texts_of us ++ more ≡ all
+one_more ts us x t ns more all l e f h =
+    ap (λ k. k ++ more) (texts_push ts us x t l e)
+    ∙ append_assoc (texts_of ts) (t ∷ []) more
+    ∙ ap (λ k. texts_of ts ++ k) (sym f)
     ∙ h

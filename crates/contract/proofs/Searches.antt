@@ -32,8 +32,8 @@ none_found n m (c ∷ cs) id e = go (has_id id c) e (none_found (suc n) (m + 1) 
     go false f h = h f
 
 -- no contract has more than eight names
-pub eight_each : (cs : List HeldContract) → sum_by (λ c. c.names.count) cs ≤ 8 * length cs
+pub eight_each : (cs : List HeldContract) → sum_by (λ c. length c.names.texts.items) cs ≤ 8 * length cs
 eight_each [] = omega arith
 eight_each (c ∷ cs) =
     let few = c.names.few in
-    omega (arith, few, sum_by-cons (λ (c : HeldContract). c.names.count) c cs, eight_each cs)
+    omega (arith, few, sum_by-cons (λ (c : HeldContract). length c.names.texts.items) c cs, eight_each cs)

@@ -1,5 +1,5 @@
 -- What the list holds and answers, as plain data.
-use Rattle.std.specs.Prelude.{ℕ, ◌≤◌, Bool, List, map, take, Some, None, Ok, Err, vec_items, vec_len, vec_capacity, Option, Result}
+use Rattle.std.specs.Prelude.{ℕ, ◌≤◌, Bool, List, map, Some, None, Ok, Err, vec_items, vec_len, vec_capacity, Option, Result}
 use Rattle.std.specs.Str.{bytes_eq}
 use Rattle.text.specs.Bytes.{Bytes}
 use Rattle.text.specs.Rows.{Refusal}
@@ -16,7 +16,7 @@ use Rattle.contract.specs.ContractList.{Contract, contract_limit}
 use Rattle.contract.specs.Faults.{contract_refusal, list_fault_number, list_fault_field}
 
 abbrev pub names_of : NameList → List Bytes
-names_of ns = texts_of (take ns.count ns.texts)
+names_of ns = texts_of ns.texts.items
 
 abbrev pub contract_of : HeldContract → Contract
 contract_of c = record {

@@ -4,10 +4,10 @@ ghost use Rattle.text.specs.Listings.{listing};
 ghost use Rattle.text.specs.Rows.{first_fit, settled_by};
 ghost use Rattle.line.specs.Reports.{said};
 ghost use Rattle.contract.specs.ContractList.{listed, names_in, needs_style, listing_rows, adding, added, due};
-ghost use Rattle.contract.specs.Held.{contract_of, has_id, added_in, found_in, number_in};
+ghost use Rattle.contract.specs.Held.{names_of, contract_of, has_id, added_in, found_in, number_in};
 
 use crate::faults::{ContractFault, ListFault};
-use crate::held::HeldContract;
+use crate::held::{HeldContract, NameList};
 use crate::list::ContractList;
 use crate::names::{has_all, has_twice};
 use crate::offers::read_contract;
@@ -39,7 +39,7 @@ impl HeldContract {
     fn wants_name(&self, names: Names) -> bool
         ensures { result ≡ (nat_le 2 (length (contract_of self.now).index_names) && length (listing names.entry) == 0) }
     {
-        self.names.count >= 2 && names.first().is_none()
+        self.names.as_slice().len() >= 2 && names.first().is_none()
     }
 }
 
@@ -87,16 +87,17 @@ impl ContractList {
     {
         self.contracts
             .iter()
-            .map(|contract| contract.names.count as usize)
+            .map(|contract| contract.names.as_slice().len())
             .sum()
     }
 
-    // Whether there is no room for a contract with so many names.
-    fn is_full(&self, names: u8) -> bool
-        ensures value { result ≡ (nat_le 63 (length self.now) || nat_lt 255 (names_in self.now + names)) }
+    // Whether there is no room for a contract with these names.
+    fn is_full(&self, names: &NameList) -> bool
+        ensures value { result ≡ (nat_le 63 (length self.now) || nat_lt 255 (names_in self.now + length (names_of names.now))) }
         ensures room { result ≡ false → length self.now < 63 }
     {
-        self.contracts.len() >= MOST_CONTRACTS || self.name_count() + names as usize > MOST_NAMES
+        self.contracts.len() >= MOST_CONTRACTS
+            || self.name_count() + names.as_slice().len() > MOST_NAMES
     }
 
     // Whether a contract may be added; its text tells the offsets of its fields.
@@ -117,7 +118,7 @@ impl ContractList {
                 at: field_offset(text, 4),
             });
         }
-        if self.is_full(contract.names.count) {
+        if self.is_full(&contract.names) {
             return Err(ContractFault::Full);
         }
         Ok(())

@@ -1,20 +1,19 @@
 // A contract as the list holds it.
-ghost use Rattle.std.specs.Prelude.{◌≡◌, ◌≤◌, length};
+ghost use Rattle.std.specs.Prelude.{◌≤◌};
+ghost use Rattle.arrayvec.specs.ArrayVec.{array_vec_len};
 
 use crate::types::ContractType;
+use arrayvec::ArrayVec;
 use text::Text;
 
-// At most eight index names. A rule of the project: adding a contract never wants memory, so they stand in a fixed array
-// with their count.
-#[derive(Clone, Copy)]
+// At most eight index names. Their places are part of it, so that adding a contract never wants memory.
+#[derive(Drop)]
 pub struct NameList {
-    pub(crate) texts: [Text<32>; 8],
-    pub(crate) count: u8,
-    ghost few: { count ≤ 8 },
-    ghost whole: { length texts ≡ 8 },
+    pub(crate) texts: ArrayVec<Text<32>, 8>,
+    ghost few: { array_vec_len texts ≤ 8 },
 }
 
-#[derive(Clone, Copy)]
+#[derive(Drop)]
 pub struct HeldContract {
     pub(crate) id: Text<32>,
     pub(crate) kind: ContractType,

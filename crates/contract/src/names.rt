@@ -1,5 +1,5 @@
 // Index names.
-ghost use Rattle.std.specs.Prelude.{◌≡◌, true, length, take};
+ghost use Rattle.std.specs.Prelude.{◌≡◌, true, length};
 ghost use Rattle.text.specs.Bytes.{every, among};
 ghost use Rattle.text.specs.Forms.{few_names};
 ghost use Rattle.text.specs.Listings.{listing};
@@ -8,6 +8,7 @@ ghost use Rattle.contract.specs.ContractList.{repeats};
 ghost use Rattle.contract.specs.Held.{names_of};
 
 use crate::held::NameList;
+use arrayvec::ArrayVec;
 use text::{Names, Text, is_among};
 
 impl NameList {
@@ -16,19 +17,17 @@ impl NameList {
         requires { few_names 8 (listing names) ≡ true }
         ensures { names_of result ≡ listing names.entry }
     {
-        let mut texts = [Text::empty(); 8];
-        let mut count: u8 = 0;
+        let mut texts = ArrayVec::new();
         for name in names {
-            texts[count as usize] = Text::new(name).unwrap();
-            count += 1;
+            texts.push(Text::new(name).unwrap());
         }
-        NameList { texts, count }
+        NameList { texts }
     }
 
     pub(crate) fn as_slice(&self) -> &[Text<32>]
-        ensures { result.now ≡ take self.now.count self.now.texts }
+        ensures { result.now ≡ self.now.texts.items }
     {
-        &self.texts[..self.count as usize]
+        self.texts.as_slice()
     }
 }
 

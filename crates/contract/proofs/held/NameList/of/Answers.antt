@@ -1,4 +1,4 @@
-use Rattle.std.proofs.Common.{◌≡◌, ◌<◌, ◌∷◌, length, sym, ap, ◌∙◌, arith, length-set}
+use Rattle.std.proofs.Common.{◌≡◌, ◌∷◌, length, sym, ap, ◌∙◌, arith}
 use Rattle.std.proofs.lemmas.Bool.{and_parts}
 use Rattle.text.specs.Bytes.{every}
 use Rattle.text.specs.Forms.{a_name}
@@ -14,10 +14,8 @@ loop-name-preserved c =
     let n = and_parts (a_name name) (every a_name more) (ap (every a_name) (sym f) ∙ c.loop-name.invariant.named) in
     let kept = text_kept _ _ _ c.unwrap.ensures (fits_text _ name (name_short _ n.0) c.new.ensures) in
     let l = ap length f in
-    let room : c.loop-name.count < length c.loop-name.texts = omega arith in
     record {
-      whole = length-set _ _ _ ∙ c.loop-name.invariant.whole;
-      room = omega arith;
+      room = omega (arith, c.push.ensures.len);
       named = n.1;
-      all = one_more c.loop-name.texts c.loop-name.count _ name _ more _ room kept f c.loop-name.invariant.all;
+      all = one_more c.loop-name.texts.items c.push.new.self.items _ name _ more _ c.push.ensures.items kept f c.loop-name.invariant.all;
     }

@@ -1,4 +1,4 @@
-use Rattle.std.proofs.Common.{◌≡◌, ◌+◌, ◌≤◌, true, ◌++◌, length, take}
+use Rattle.std.proofs.Common.{◌≡◌, ◌+◌, ◌≤◌, true, ◌++◌, length}
 use Rattle.text.specs.Bytes.{every}
 use Rattle.text.specs.Forms.{a_name}
 use Rattle.text.specs.Listings.{listing}
@@ -7,8 +7,7 @@ use Rattle.contract.proofs.held.NameList.of.Given as goal
 
 abbrev pub invariant-loop-name : goal.invariant-loop-name
 invariant-loop-name l = record {
-  whole : length l.texts ≡ 8;
-  room : l.count + length (listing l.name-iterator) ≤ 8;
+  room : length l.texts.items + length (listing l.name-iterator) ≤ 8;
   named : every a_name (listing l.name-iterator) ≡ true;
-  all : texts_of (take l.count l.texts) ++ listing l.name-iterator ≡ listing l.fn.names;
+  all : texts_of l.texts.items ++ listing l.name-iterator ≡ listing l.fn.names;
 }

@@ -12,5 +12,5 @@ sum-requires-clause-fits c =
 
 pub returns-clause-small : goal.returns-clause-small
 returns-clause-small c =
-    let counted : c.sum.result ≡ sum_by (λ (c : HeldContract). c.names.count) c.self.inside.contracts.items = search rules in
+    let counted : c.sum.result ≡ sum_by (λ (c : HeldContract). length c.names.texts.items) c.self.inside.contracts.items = search rules in
     omega (arith, counted, eight_each c.self.inside.contracts.items)
