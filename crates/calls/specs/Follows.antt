@@ -30,7 +30,7 @@ module _ {V : Type 0} (weighing : Ghosts V) where
     pub holds : Agrees here (book_after capacity past)
     pub sums : sum ≡ book_total (book_after capacity past)
 
-  -- law (a): a new checker with room for so many lives was given these calls. Its answers, and the totals that it was asked for, are the book's;
+  -- the law of runs: a new checker with room for so many lives was given these calls. Its answers, and the totals that it was asked for, are the book's;
   -- it holds what the book holds, and its total is the joined weights of the book's open lives
   pub record Ran (capacity : ℕ) (calls : List Call) (said : List Answer) (told : List V) (here : Book) (sum : V) : Type 0 where
     pub same_answers : said ≡ answers (empty_book capacity) calls

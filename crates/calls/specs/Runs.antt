@@ -1,4 +1,4 @@
--- A run of calls on a new checker: law (a).
+-- A run of calls on a new checker: the law of runs.
 use Rattle.measure.specs.declared.measure.Measure.{Ghosts}
 use Rattle.std.specs.Prelude.{ℕ, List, vec_items}
 use Rattle.book.specs.Book.{Call}

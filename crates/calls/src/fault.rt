@@ -8,7 +8,7 @@ use contract::ContractFault;
 use files::{IdentifyFault, PlaceFault};
 use filing::{EntityFault, NameFault};
 
-#[derive(Clone, Copy)]
+#[derive(Clone, Copy, PartialEq, Eq, Debug)]
 pub enum Fault {
     // in adding an entity
     Entity(EntityFault),
@@ -26,6 +26,7 @@ pub enum Fault {
     LookUp(LineFault),
 }
 
+// Its own methods, as each fault has: a trait over faults would say each contract again in its definitions, and each body again in an impl.
 impl Fault {
     // The published number.
     pub fn number(&self) -> u16
@@ -42,7 +43,7 @@ impl Fault {
         }
     }
 
-    // The field, or 0 where none is named.
+    // The field, or 0 where none is named: the number that is published for none.
     pub fn field(&self) -> u8
         ensures { result ≡ fault_field self.now }
     {

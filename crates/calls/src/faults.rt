@@ -8,7 +8,7 @@ use files::TakeFault;
 use register::ActFault;
 use text::Kind;
 
-#[derive(Clone, Copy)]
+#[derive(Clone, Copy, PartialEq, Eq, Debug)]
 pub enum JudgeFault {
     // its file takes no line
     File(TakeFault),
@@ -22,6 +22,7 @@ pub enum JudgeFault {
     },
 }
 
+// Written out: a derived `From` would not tell which fault a `?` makes.
 impl From<TakeFault> for JudgeFault {
     ghost from_gives = { λ e r. r ≡ File e };
 
@@ -38,6 +39,7 @@ impl From<LineFault> for JudgeFault {
     }
 }
 
+// Its own methods, as each fault has: a trait over faults would say each contract again in its definitions, and each body again in an impl.
 impl JudgeFault {
     // The published number.
     pub fn number(&self) -> u16
@@ -50,7 +52,7 @@ impl JudgeFault {
         }
     }
 
-    // The field, or 0 where none is named.
+    // The field, or 0 where none is named: the number that is published for none.
     pub fn field(&self) -> u8
         ensures { result ≡ judge_field self.now }
     {

@@ -23,8 +23,8 @@ impl<'s, S: Store, B: Measure> Checker<'s, S, Both<Sheet, B>> {
     {
         // By a loop: from `array::from_fn` it could not be told that each call asks this checker.
         let mut sums = [0; CELLS];
-        for n in 0..CELLS {
-            sums[n] = self.position(n as u8);
+        for (n, sum) in sums.iter_mut().enumerate() {
+            *sum = self.position(n as u8);
         }
         sums
     }

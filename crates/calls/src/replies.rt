@@ -14,7 +14,8 @@ use life::Life;
 use measure::Measure;
 use std::alloc::AllocError;
 
-// Each call has an answer of its own in the contracts, so each has its own function here.
+// Each call has an answer of its own in the contracts, so each has its own function here. A `From` for each of the seven faults would be longer
+// than what it would save.
 
 pub(crate) fn of_entity(res: Result<(), EntityFault>) -> Answer
     ensures { answer_said result ≡ entity_answer res }
@@ -81,7 +82,7 @@ pub(crate) fn of_finding(res: Result<Option<Life>, LineFault>) -> Answer
     }
 }
 
-// A total once more: zero joined to it.
+// A total once more: zero joined to it. A bound `M: Clone` would ask more of callers.
 pub(crate) fn copied<M: Measure>(total: &M) -> M
     ensures { result ≡ total.now }
 {

@@ -20,6 +20,7 @@ pub enum CommandFault {
     Read(ReadFault),
 }
 
+// Written out: a derived `From` would not tell which fault a `?` makes.
 impl From<ReadFault> for CommandFault {
     ghost from_gives = { λ e r. r ≡ Read e };
 
@@ -40,7 +41,7 @@ impl CommandFault {
         }
     }
 
-    // The field of the report line, or 0 where none is named.
+    // The field of the report line, or 0 where none is named: the number that is published for none.
     pub fn field(&self) -> u8
         ensures { result ≡ command_field self.now }
     {

@@ -14,6 +14,7 @@ pub enum LineFault {
     List { fault: ListFault, at: usize },
 }
 
+// Written out: a derived `From` would not tell which fault a `?` makes.
 impl From<ReadFault> for LineFault {
     ghost from_gives = { λ e r. r ≡ Read e };
 
@@ -22,6 +23,7 @@ impl From<ReadFault> for LineFault {
     }
 }
 
+// Its own methods, as each fault has: a trait over faults would say each contract again in its definitions, and each body again in an impl.
 impl LineFault {
     // The published number.
     pub fn number(&self) -> u16
@@ -33,7 +35,7 @@ impl LineFault {
         }
     }
 
-    // The field, or 0 where none is named.
+    // The field, or 0 where none is named: the number that is published for none.
     pub fn field(&self) -> u8
         ensures { result ≡ line_fault_field self.now }
     {

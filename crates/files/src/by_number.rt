@@ -44,21 +44,17 @@ impl FileList {
     fn file(&self, number: usize) -> HeldFile
         ensures { as_file result ≡ file_of self.now.files number }
     {
-        let files = self.files.as_slice();
-        if number < files.len() {
-            files[number]
-        } else {
-            HeldFile::none()
-        }
+        self.files.get(number).copied().unwrap_or(HeldFile::none())
     }
 
     // Puts a file in the place of a number, if there is one.
     fn put(&mut self, number: usize, file: HeldFile)
         ensures { self.new ≡ with_files (slice_set self.old.files number (as_file file)) self.old }
     {
-        if number < self.files.len() {
-            self.files[number] = file;
-        }
+        let Some(held) = self.files.get_mut(number) else {
+            return;
+        };
+        *held = file;
     }
 
     // Identifies a file by the code of its entity.
@@ -77,7 +73,8 @@ impl FileList {
         Ok(())
     }
 
-    // Ends a file that is only named, and gives its counts. Written apart from closing: a function over the stage would repeat each clause for each stage.
+    // Ends a file that is only named, and gives its counts. Written apart from closing: a function over the stage
+    // would have the clauses of both, each under its stage, to save three lines.
     pub fn withdraw_at(&mut self, number: usize) -> Result<Receipt, PlaceFault>
         ensures told { place_refusal result ≡ first_fit withdrawing_rows (file_of self.old.files number) }
         ensures counts { IfOk result (λ receipt. receipt ≡ receipt_of (file_of self.old.files number)) }

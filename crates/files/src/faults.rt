@@ -13,6 +13,7 @@ pub enum NamingError {
     NoMemory,
 }
 
+// Written out: a derived `From` would not tell which error a `?` makes.
 impl From<NameFault> for NamingError {
     ghost from_gives = { λ e r. r ≡ Fault e };
 

@@ -14,6 +14,7 @@ pub enum ActFault {
     Full,
 }
 
+// Written out: a derived `From` would not tell which fault a `?` makes.
 impl From<LifeFault> for ActFault {
     ghost from_gives = { λ e r. r ≡ Life e };
 
@@ -33,7 +34,7 @@ impl ActFault {
         }
     }
 
-    // The field of the line, or 0 where none is named.
+    // The field of the line, or 0 where none is named: the number that is published for none.
     pub fn field(&self) -> u8
         ensures { result ≡ act_field self.now }
     {

@@ -13,6 +13,7 @@ use life::{Key, Life, NoRoom, Outcome, Store, first};
 use measure::{Measure, come, go, replace};
 use text::Action;
 
+// Clauses tell the total again where a caller needs it: a model's invariant is not seen from outside, and its value can't name a bound's members.
 impl<'s, S: Store, M: Measure> Register<'s, S, M> {
     // A register over an emptied store, with a total of zero.
     pub fn new(store: &'s mut S) -> Register<'s, S, M>

@@ -1,7 +1,6 @@
 -- A run, what is left of it, and the run of that.
 use Rattle.std.proofs.Common.{◌≡◌, ℕ, List, [], ◌∷◌, length, sym, ap, ◌∙◌, subst}
 use Rattle.std.specs.List.{AllZip}
-use Rattle.life.specs.Parts.{KeyParts, LifeParts}
 use Rattle.measure.specs.declared.measure.Measure.{Ghosts}
 use Rattle.life.specs.Lives.{look}
 use Rattle.book.specs.Book.{Book, empty_book, Call, AddEntity, AddContract, NameFile, Identify, Withdraw, Close, Judge, LookUp, Total, Answer, verdict, answered, answer, after, answers, end}

@@ -1,7 +1,6 @@
 -- What is left of a list of calls, and what it does when it is sent again.
 use Rattle.std.specs.Prelude.{◌≡◌, ℕ, List, [], ◌∷◌, length}
 use Rattle.std.specs.List.{AllZip}
-use Rattle.life.specs.Parts.{KeyParts, LifeParts}
 use Rattle.measure.specs.declared.measure.Measure.{Ghosts}
 use Rattle.life.specs.Lives.{Same}
 use Rattle.book.specs.Book.{Book, empty_book, Call, AddEntity, AddContract, NameFile, Identify, Withdraw, Close, Judge, LookUp, Total, Answer, Accepted}
@@ -27,7 +26,7 @@ LinesAccepted [] (a ∷ later) = ⊥
 LinesAccepted (c ∷ cs) [] = ⊥
 LinesAccepted (c ∷ cs) (a ∷ later) = LineAccepted c a × LinesAccepted cs later
 
--- law (b): a new checker was given the calls; what is left are the survivors of that run; and a second new checker, with room for as many lives,
+-- the law of sending again: a new checker was given the calls; what is left are the survivors of that run; and a second new checker, with room for as many lives,
 -- was given these. It accepted every judged line among them, and holds what the first holds: entities, contracts, files at the same stage, at each
 -- key the same life or none, as many lives, and the same total
 pub record Resends {V : Type 0} (weighing : Ghosts V) (capacity : ℕ) (calls : List Call) (said : List Answer) (told : List V) (left : List Call) (again : List Answer) (told-again : List V) (first : Book) (sum : V) (second : Book) (other : V) : Type 0 where

@@ -37,13 +37,12 @@ fn left_out(mark: &Mark, place: usize, last: &BTreeMap<Key, usize>) -> bool
     }
 }
 
-// The calls that are not left out, in their order.
+// The calls that are not left out, in their order. Their marks come beside them: pairs would copy every call.
 pub(crate) fn survivors<'a>(
     heap: Global,
     calls: &[Call<'a>],
     marks: &[Mark],
 ) -> Result<Vec<Call<'a>>, AllocError>
-    requires { length calls.now ≡ length marks.now }
     ensures { IfOk result (λ v. calls_said v.items ≡ kept_calls (calls_said calls.now) (marks_in marks.now)) }
 {
     let last = last_errors(heap, marks)?;
@@ -51,12 +50,6 @@ pub(crate) fn survivors<'a>(
         .iter()
         .zip(marks)
         .enumerate()
-        .filter_map(|(place, (call, mark))| {
-            if left_out(mark, place, &last) {
-                None
-            } else {
-                Some(*call)
-            }
-        })
+        .filter_map(|(place, (call, mark))| { (!left_out(mark, place, &last)).then_some(*call) })
         .collect(heap)
 }

@@ -19,4 +19,4 @@ pair b = record {
 }
 
 abbrev pub invariant-loop-n : goal.invariant-loop-n
-invariant-loop-n g l = (length l.sums ≡ 64) × ((n : ℕ) → n < l.n → TellsPosition (pair g.B.Measure) l.self n (get_or l.sums n (pos 0)))
+invariant-loop-n g l = (length l.sum-items ≡ 64) × ((n : ℕ) → n < l.n → TellsPosition (pair g.B.Measure) l.self n (get_or l.sum-items n (pos 0)))

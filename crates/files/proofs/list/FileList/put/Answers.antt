@@ -3,8 +3,8 @@ use Rattle.std.proofs.lemmas.List.{map-set}
 use Rattle.files.specs.Held.{Filed, as_file, with_files}
 use Rattle.files.proofs.list.FileList.put.Goals as goal
 
-pub returns-then-number-len : goal.returns-then-number-len
-returns-then-number-len c =
+pub returns : goal.returns
+returns c =
     let files = c.self.inside.files in
     let n = c.args.number in
     let file = c.args.file in
