@@ -3,10 +3,9 @@ use Rattle.measure.specs.declared.measure.Measure.{Ghosts}
 use Rattle.std.proofs.Common.{◌≡◌, Bool, true, false, IfOk, IfErr, Ok, Err, Result, sym, subst, MatchResult}
 use Rattle.std.specs.declared.alloc.AllocError.{AllocError}
 use Rattle.book.specs.Book.{Call, Answer}
-use Rattle.calls.specs.declared.answer.Answer.{Answer as Spoken}
 use Rattle.calls.specs.declared.checker.Checker.{Checker}
 use Rattle.calls.specs.Held.{book_in, Continues, Stays}
-use Rattle.calls.specs.Said.{answer_said}
+use Rattle.calls.specs.Said.{Spoken, answer_said}
 use Rattle.calls.specs.Steps.{Step}
 use Rattle.calls.proofs.Histories.{more}
 

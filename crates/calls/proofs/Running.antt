@@ -6,10 +6,9 @@ use Rattle.std.proofs.lemmas.List.{take_more, take_all}
 use Rattle.book.specs.Book.{Book, empty_book, Call, AddEntity, AddContract, NameFile, Identify, Withdraw, Close, Judge, LookUp, Total, Answer, Accepted, after, answer, answers, end}
 use Rattle.book.specs.Totals.{telling, totals}
 use Rattle.book.proofs.Runs.{answers_append}
-use Rattle.calls.specs.declared.answer.Answer.{Answer as Spoken}
 use Rattle.calls.specs.declared.call.Call.{Call as Asked}
 use Rattle.calls.specs.Follows.{book_after, book_total, Follows, Ran}
-use Rattle.calls.specs.Said.{call_said, calls_said, answer_said, answers_said, Answering, Totalling, replied, reply}
+use Rattle.calls.specs.Said.{Spoken, call_said, calls_said, answer_said, answers_said, Answering, Totalling, replied, reply}
 
 telling_append : {V : Type 0} (t : V) (c : Call) (xs ys : List V) → telling t c (xs ++ ys) ≡ telling t c xs ++ ys
 telling_append t (AddEntity bs) xs ys = refl

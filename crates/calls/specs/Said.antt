@@ -18,8 +18,9 @@ use Rattle.life.specs.Acts.{life_in}
 use Rattle.claims.specs.declared.faults.LineFault.{LineFault}
 use Rattle.claims.specs.Faults.{line_fault_number, line_fault_field, line_fault_offset}
 use Rattle.book.specs.Book as book
-use Rattle.calls.specs.declared.answer.Answer.{Answer}
-use Rattle.calls.specs.declared.answer.Answer.TheVariants.{Accepted, Refused, Receipt, Found}
+use Rattle.calls.specs.declared.answer.Given.{Given}
+use Rattle.calls.specs.declared.answer.Given.TheVariants.{Accepted, Receipt, Found}
+use Rattle.calls.specs.declared.fault.Fault as calls
 use Rattle.calls.specs.declared.answer.Reply.{Reply}
 use Rattle.calls.specs.declared.answer.Reply.TheVariants.{Answered, Total as Totalled}
 use Rattle.calls.specs.declared.call.Call.{Call}
@@ -49,13 +50,17 @@ calls_said = map call_said
 abbrev pub receipt_said : files.Receipt → book.Answer
 receipt_said r = book.Receipt r.judged r.accepted r.refused
 
-abbrev pub answer_said : Answer → book.Answer
-answer_said Accepted = book.Accepted
-answer_said (Refused f) = book.Refused (fault_number f) (fault_field f) (fault_offset f)
-answer_said (Receipt r) = receipt_said r
-answer_said (Found o) = book.Found (life_in o)
+-- what the code answers
+abbrev pub Spoken : Type 0
+Spoken = Result Given calls.Fault
 
-abbrev pub answers_said : List Answer → List book.Answer
+abbrev pub answer_said : Spoken → book.Answer
+answer_said (Ok Accepted) = book.Accepted
+answer_said (Ok (Receipt r)) = receipt_said r
+answer_said (Ok (Found o)) = book.Found (life_in o)
+answer_said (Err f) = book.Refused (fault_number f) (fault_field f) (fault_offset f)
+
+abbrev pub answers_said : List Spoken → List book.Answer
 answers_said = map answer_said
 
 -- ---- The answers of each call; those with no field named have the field and the offset 0

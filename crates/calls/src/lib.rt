@@ -15,7 +15,7 @@ mod positions;
 mod replies;
 mod runs;
 
-pub use answer::{Answer, Reply};
+pub use answer::{Answer, Given, Reply};
 pub use call::Call;
 pub use checker::Checker;
 pub use completed::CompletedRun;

@@ -3,7 +3,7 @@ ghost use Rattle.std.specs.Prelude.{◌≡◌, true, false, MatchResult};
 ghost use Rattle.files.specs.Answers.{had_memory};
 ghost use Rattle.calls.specs.Said.{answer_said, entity_answer, contract_answer, naming_answer, identify_answer, ending_answer, judge_answer, finding_answer};
 
-use crate::answer::Answer;
+use crate::answer::{Answer, Given};
 use crate::fault::Fault;
 use crate::faults::JudgeFault;
 use claims::LineFault;
@@ -21,8 +21,8 @@ pub(crate) fn of_entity(res: Result<(), EntityFault>) -> Answer
     ensures { answer_said result ≡ entity_answer res }
 {
     match res {
-        Ok(()) => Answer::Accepted,
-        Err(fault) => Answer::Refused(Fault::Entity(fault)),
+        Ok(()) => Ok(Given::Accepted),
+        Err(fault) => Err(Fault::Entity(fault)),
     }
 }
 
@@ -30,8 +30,8 @@ pub(crate) fn of_contract(res: Result<u8, ContractFault>) -> Answer
     ensures { answer_said result ≡ contract_answer res }
 {
     match res {
-        Ok(_) => Answer::Accepted,
-        Err(fault) => Answer::Refused(Fault::Contract(fault)),
+        Ok(_) => Ok(Given::Accepted),
+        Err(fault) => Err(Fault::Contract(fault)),
     }
 }
 
@@ -40,8 +40,8 @@ pub(crate) fn of_naming(res: Result<usize, NamingError>) -> Result<Answer, Alloc
     ensures { MatchResult result (λ answer. (had_memory res ≡ true) × (answer_said answer ≡ naming_answer res)) (λ _. had_memory res ≡ false) }
 {
     match res {
-        Ok(_) => Ok(Answer::Accepted),
-        Err(NamingError::Fault(fault)) => Ok(Answer::Refused(Fault::Name(fault))),
+        Ok(_) => Ok(Ok(Given::Accepted)),
+        Err(NamingError::Fault(fault)) => Ok(Err(Fault::Name(fault))),
         Err(NamingError::NoMemory) => Err(AllocError),
     }
 }
@@ -50,8 +50,8 @@ pub(crate) fn of_identifying(res: Result<(), IdentifyFault>) -> Answer
     ensures { answer_said result ≡ identify_answer res }
 {
     match res {
-        Ok(()) => Answer::Accepted,
-        Err(fault) => Answer::Refused(Fault::Identify(fault)),
+        Ok(()) => Ok(Given::Accepted),
+        Err(fault) => Err(Fault::Identify(fault)),
     }
 }
 
@@ -59,8 +59,8 @@ pub(crate) fn of_ending(res: Result<Receipt, PlaceFault>) -> Answer
     ensures { answer_said result ≡ ending_answer res }
 {
     match res {
-        Ok(receipt) => Answer::Receipt(receipt),
-        Err(fault) => Answer::Refused(Fault::Place(fault)),
+        Ok(receipt) => Ok(Given::Receipt(receipt)),
+        Err(fault) => Err(Fault::Place(fault)),
     }
 }
 
@@ -68,8 +68,8 @@ pub(crate) fn of_judging(res: Result<(), JudgeFault>) -> Answer
     ensures { answer_said result ≡ judge_answer res }
 {
     match res {
-        Ok(()) => Answer::Accepted,
-        Err(fault) => Answer::Refused(Fault::Judge(fault)),
+        Ok(()) => Ok(Given::Accepted),
+        Err(fault) => Err(Fault::Judge(fault)),
     }
 }
 
@@ -77,8 +77,8 @@ pub(crate) fn of_finding(res: Result<Option<Life>, LineFault>) -> Answer
     ensures { answer_said result ≡ finding_answer res }
 {
     match res {
-        Ok(life) => Answer::Found(life),
-        Err(fault) => Answer::Refused(Fault::LookUp(fault)),
+        Ok(life) => Ok(Given::Found(life)),
+        Err(fault) => Err(Fault::LookUp(fault)),
     }
 }
 

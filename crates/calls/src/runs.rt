@@ -6,7 +6,7 @@ ghost use Rattle.calls.specs.Held.{Led};
 ghost use Rattle.calls.specs.Runs.{HasRun};
 ghost use Rattle.calls.specs.Said.{call_said, calls_said};
 
-use crate::answer::{Answer, Reply};
+use crate::answer::{Given, Reply};
 use crate::call::Call;
 use crate::checker::Checker;
 use crate::completed::CompletedRun;
@@ -39,7 +39,7 @@ impl<'s, S: Store, M: Measure> CompletedRun<'s, S, M> {
         match self.checker.call(call)? {
             Reply::Answered(answer) => self.answers.push(answer)?,
             Reply::Total(total) => {
-                self.answers.push(Answer::Accepted)?;
+                self.answers.push(Ok(Given::Accepted))?;
                 self.totals.push(total)?;
             }
         }

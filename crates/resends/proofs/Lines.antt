@@ -1,5 +1,5 @@
 -- The mark of a call, from its answer and the contracts listed.
-use Rattle.std.proofs.Common.{◌≡◌, ℕ, List, Some, None, Ok, Err, Option, sym, refl, ap, ◌∙◌, arith, Bor}
+use Rattle.std.proofs.Common.{◌≡◌, ℕ, true, false, List, is_err, Some, None, Ok, Err, Option, sym, refl, ap, ◌∙◌, arith, Bor}
 use Rattle.text.specs.Bytes.{Bytes}
 use Rattle.text.specs.Rows.{first_fit, settled_by}
 use Rattle.contract.specs.ContractList.{Contract, Told}
@@ -13,11 +13,10 @@ use Rattle.claims.specs.Made.{claim_of, claim_in}
 use Rattle.book.specs.Book.{Book, Judge, Accepted, told_by, looking_rows, verdict, changed, answered, answer}
 use Rattle.book.specs.Laws.{subject}
 use Rattle.book.proofs.Tables.{Passed, passed, looking_parts}
-use Rattle.calls.specs.declared.answer.Answer.{Answer as Spoken}
-use Rattle.calls.specs.declared.answer.Answer.TheVariants as spoken
+use Rattle.calls.specs.declared.answer.Given.TheVariants as given
 use Rattle.calls.specs.declared.call.Call.{Call as Asked}
 use Rattle.calls.specs.declared.call.Call.TheVariants as asked
-use Rattle.calls.specs.Said.{call_said, answer_said}
+use Rattle.calls.specs.Said.{Spoken, call_said, answer_said}
 use Rattle.text.proofs.Tables.{or_else}
 use Rattle.resends.specs.Marks.{MarkParts, NoReportLine, RefusedLine, LineOf, marked, mark_in, MarksCall}
 
@@ -27,18 +26,33 @@ module _ (b : Book) (n : ℕ) (bs : Bytes) where
   accepted_none None e = refl
   accepted_none (Some r) e = cc
 
-  said_accepted : (x : Spoken) → answer_said x ≡ Accepted → x ≡ spoken.Accepted
-  said_accepted spoken.Accepted e = refl
-  said_accepted (spoken.Refused r) e = cc
-  said_accepted (spoken.Receipt r) e = cc
-  said_accepted (spoken.Found o) e = cc
+  said_accepted : (x : Spoken) → answer_said x ≡ Accepted → x ≡ Ok given.Accepted
+  said_accepted (Ok given.Accepted) e = refl
+  said_accepted (Ok (given.Receipt r)) e = cc
+  said_accepted (Ok (given.Found o)) e = cc
+  said_accepted (Err f) e = cc
 
-  pub refused_line : (x : Spoken) → (x ≡ spoken.Accepted → ⊥) → answer_said x ≡ answer b (Judge n bs) → RefusedLine ≡ mark_in b (Judge n bs)
-  refused_line x no-accept e = by (verdict b (Judge n bs)) e
+  -- what is given for a line is its acceptance
+  pub given_accepted : (x : Spoken) → is_err x ≡ false → answer_said x ≡ answer b (Judge n bs) → Accepted ≡ answer b (Judge n bs)
+  given_accepted (Ok given.Accepted) fine e = e
+  given_accepted (Ok (given.Receipt r)) fine e = by (verdict b (Judge n bs)) e
+    where
+      by : (v : Option (ℕ × ℕ)) → answer_said (Ok (given.Receipt r)) ≡ answered b (Judge n bs) v → Accepted ≡ answered b (Judge n bs) v
+      by None h = refl
+      by (Some q) h = cc
+  given_accepted (Ok (given.Found o)) fine e = by (verdict b (Judge n bs)) e
+    where
+      by : (v : Option (ℕ × ℕ)) → answer_said (Ok (given.Found o)) ≡ answered b (Judge n bs) v → Accepted ≡ answered b (Judge n bs) v
+      by None h = refl
+      by (Some q) h = cc
+  given_accepted (Err f) fine e = cc
+
+  pub refused_line : (x : Spoken) → is_err x ≡ true → answer_said x ≡ answer b (Judge n bs) → RefusedLine ≡ mark_in b (Judge n bs)
+  refused_line x refused e = by (verdict b (Judge n bs)) e
     where
       by : (v : Option (ℕ × ℕ)) → answer_said x ≡ answered b (Judge n bs) v → RefusedLine ≡ marked (subject b.contracts (Judge n bs)) v
       by (Some r) h = refl
-      by None h = absurd (no-accept (said_accepted x h))
+      by None h = let accepted = said_accepted x h in let none : is_err x ≡ false = ap is_err accepted in cc
 
   none_looks : Accepted ≡ answer b (Judge n bs) → first_fit looking_rows (bs, told_by b.contracts bs) ≡ None
   none_looks e =

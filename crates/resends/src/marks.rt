@@ -13,9 +13,9 @@ use contract::ContractList;
 fn line_mark(contracts: &ContractList, line: &[u8], answer: &Answer) -> Mark
     ensures { (b : Book) (n : ℕ) → b.contracts ≡ contracts.now → answer_said answer.now ≡ book_answer b (JudgeCall n line.now) → mark_parts result ≡ mark_in b (JudgeCall n line.now) }
 {
-    let Answer::Accepted = *answer else {
+    if answer.is_err() {
         return Mark::Refused;
-    };
+    }
     match claim(contracts, line) {
         Ok(claim) => Mark::Accepted {
             key: claim.key,

@@ -1,5 +1,5 @@
-use Rattle.std.proofs.Common.{vec_items, sym, refl, ap, ◌∙◌}
-use Rattle.calls.specs.declared.answer.Answer.TheVariants.{Accepted}
+use Rattle.std.proofs.Common.{vec_items, Ok, sym, refl, ap, ◌∙◌}
+use Rattle.calls.specs.declared.answer.Given.TheVariants.{Accepted}
 use Rattle.calls.specs.Held.{book_in}
 use Rattle.calls.specs.Said.{call_said, reply_said}
 use Rattle.calls.proofs.Running.{goes_answered, goes_totalled}
@@ -24,5 +24,5 @@ returns-in_ok-push-in-Total-2 g c capacity past f =
     let is = c.call.new.self in
     let goes = c.in_ok-answer.ensures.follows capacity past f.follows in
     goes_totalled m capacity past (call_said c.args.call.now) (vec_items was.answers) (vec_items was.totals)
-    (book_in was.checker) (book_in is) was.checker.register.total is.register.total c.in-Total.total Accepted (vec_items c.push-in-Total.new.self) (vec_items c.push-in-Total-2.new.self)
+    (book_in was.checker) (book_in is) was.checker.register.total is.register.total c.in-Total.total (Ok Accepted) (vec_items c.push-in-Total.new.self) (vec_items c.push-in-Total-2.new.self)
     refl c.in_ok-push-in-Total.ensures.items c.in_ok-push-in-Total-2.ensures.items f (sym (ap reply_said c.in-Total.is) ∙ goes.0, goes.1)
