@@ -6,6 +6,7 @@ use std::io;
 use std::io::{Read, Write};
 use text::{Action, Kind, Names, Side};
 
+// Words that this program alone prints, as bytes among the bytes of a line.
 fn kind_word(kind: Kind) -> &'static [u8] {
     match kind {
         Kind::Order => b"order ",

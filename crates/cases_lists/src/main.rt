@@ -1,9 +1,9 @@
 // Drives the contract list, the entity list and the reader of file names with the lines of its input, and prints what each answers.
 #![tactic(auto)]
 
-use contract::ContractList;
+use contract::{ContractFault, ContractList};
 use filing::{EntityList, read_name};
-use line::{field_offset, read_line};
+use line::{ReadFault, field_offset, read_line};
 use std::alloc::{AllocError, Global};
 use std::io::Read;
 use std::{fmt, io};
@@ -50,19 +50,61 @@ fn command_of<'a>(line: &'a [u8]) -> Command<'a> {
     }
 }
 
-fn refused(
-    rt: HostRuntime,
+// Why an input line was refused, as it is printed.
+#[derive(Clone, Copy)]
+struct Refusal<'a> {
     number: u16,
     field: u8,
     offset: usize,
-    code: Option<&[u8]>,
-) -> io::Result<()> {
-    match code {
-        Some(code) => {
-            let code = Shown(code);
-            println!(rt; "refused {number} field {field} offset {offset} code {code}")
+    code: Option<&'a [u8]>,
+}
+
+impl From<ReadFault> for Refusal<'_> {
+    fn from(fault: ReadFault) -> Self {
+        Refusal {
+            number: fault.number(),
+            field: fault.field(),
+            offset: fault.offset(),
+            code: None,
         }
-        None => println!(rt; "refused {number} field {field} offset {offset}"),
+    }
+}
+
+impl From<ContractFault> for Refusal<'_> {
+    fn from(fault: ContractFault) -> Self {
+        Refusal {
+            number: u16::from(fault.number()),
+            field: fault.field(),
+            offset: fault.offset(),
+            code: fault.code(),
+        }
+    }
+}
+
+// A refusal that names no field and has no code.
+fn plain(number: u8) -> Refusal<'static> {
+    Refusal {
+        number: u16::from(number),
+        field: 0,
+        offset: 0,
+        code: None,
+    }
+}
+
+impl fmt::Display for Refusal<'_> {
+    fn fmt<W: fmt::Write>(&self, f: &mut fmt::Formatter<W>) -> fmt::Result {
+        let Refusal {
+            number,
+            field,
+            offset,
+            code,
+        } = *self;
+        write!(f, "refused {number} field {field} offset {offset}")?;
+        if let Some(code) = code {
+            let code = Shown(code);
+            write!(f, " code {code}")?;
+        }
+        Ok(())
     }
 }
 
@@ -85,14 +127,20 @@ impl Lists {
     fn add_contract(&mut self, rt: HostRuntime, text: &[u8]) -> io::Result<()> {
         match self.contracts.add(text) {
             Ok(number) => println!(rt; "contract {number}"),
-            Err(e) => refused(rt, e.number() as u16, e.field(), e.offset(), e.code()),
+            Err(fault) => {
+                let refusal = Refusal::from(fault);
+                println!(rt; "{refusal}")
+            }
         }
     }
 
     fn add_entity(&mut self, rt: HostRuntime, code: &[u8]) -> io::Result<()> {
         match self.entities.add(code) {
             Ok(()) => println!(rt; "entity added"),
-            Err(e) => refused(rt, e.number() as u16, 0, 0, None),
+            Err(fault) => {
+                let refusal = plain(fault.number());
+                println!(rt; "{refusal}")
+            }
         }
     }
 
@@ -107,23 +155,28 @@ impl Lists {
                     println!(rt; "entity {text} at {at}, not known")
                 }
             }
-            Err(e) => refused(rt, e.number() as u16, 0, 0, None),
+            Err(fault) => {
+                let refusal = plain(fault.number());
+                println!(rt; "{refusal}")
+            }
         }
     }
 
+    // The contract number of a report line.
+    fn number_of(&self, line: &[u8]) -> Result<u8, Refusal<'static>> {
+        let report = read_line(line)?;
+        self.contracts.number_of(&report).map_err(|fault| Refusal {
+            number: u16::from(fault.number()),
+            field: fault.field(),
+            offset: field_offset(line, fault.field()),
+            code: Some(fault.code()),
+        })
+    }
+
     fn contract_of(&self, rt: HostRuntime, line: &[u8]) -> io::Result<()> {
-        match read_line(line) {
-            Ok(report) => match self.contracts.number_of(&report) {
-                Ok(number) => println!(rt; "contract number {number}"),
-                Err(e) => refused(
-                    rt,
-                    e.number() as u16,
-                    e.field(),
-                    field_offset(line, e.field()),
-                    Some(e.code()),
-                ),
-            },
-            Err(e) => refused(rt, e.number(), e.field(), e.offset(), None),
+        match self.number_of(line) {
+            Ok(number) => println!(rt; "contract number {number}"),
+            Err(refusal) => println!(rt; "{refusal}"),
         }
     }
 }

@@ -2,6 +2,7 @@
 use files::Receipt;
 use std::{fmt, io};
 
+// It holds what is printed: numbers, whatever call they come from.
 #[derive(Clone, Copy)]
 pub enum Event {
     EntityAdded,

@@ -39,7 +39,7 @@ struct Cut<'a> {
     rest: &'a [u8],
 }
 
-// The text before the first `_`, and what follows it.
+// The text before the first `_`, and what follows it. A slice's `splitn` would give the parts one by one all the same, and each as an `Option`.
 fn first_cut<'a>(text: &'a [u8]) -> Option<Cut<'a>>
     ensures { cut_in result ≡ in_two 95 text.now }
 {

@@ -16,9 +16,9 @@ const FINDS: usize = 100_000;
 const ROUNDS: usize = 20;
 
 // The shortest of some rounds, as nanoseconds for each find.
-fn timed<S: Store>(rt: HostRuntime, store: &S, wanted: &[Key]) -> io::Result<u128> {
+fn timed<S: Store>(rt: HostRuntime, store: &S, wanted: &[Key], rounds: usize) -> io::Result<u128> {
     let mut least = u128::MAX;
-    for _ in 0..ROUNDS {
+    for _ in 0..rounds {
         let start = Instant::now(&rt)?;
         let sum = find_all(store, wanted);
         let spent = start.elapsed(&rt)?.as_nanos();
@@ -29,7 +29,14 @@ fn timed<S: Store>(rt: HostRuntime, store: &S, wanted: &[Key]) -> io::Result<u12
     Ok(least / FINDS as u128)
 }
 
-fn run(rt: HostRuntime, held: u32, among: u32, finds: usize, time: bool) -> io::Result<()> {
+// Finds keys in both stores, and times so many rounds of that, if any.
+fn run(
+    rt: HostRuntime,
+    held: u32,
+    among: u32,
+    finds: usize,
+    rounds: Option<usize>,
+) -> io::Result<()> {
     let heap = rt.alloc();
     let Some(key) = key_of(0) else {
         return Ok(());
@@ -52,9 +59,9 @@ fn run(rt: HostRuntime, held: u32, among: u32, finds: usize, time: bool) -> io::
     let one = find_all(&chained, &wanted);
     let other = find_all(&ordered, &wanted);
     println!(rt; "{held} held, {finds} finds among {among}: {one}, {other}")?;
-    if time {
-        let c = timed(rt, &chained, &wanted)?;
-        let o = timed(rt, &ordered, &wanted)?;
+    if let Some(rounds) = rounds {
+        let c = timed(rt, &chained, &wanted, rounds)?;
+        let o = timed(rt, &ordered, &wanted, rounds)?;
         println!(rt; "chained {c} ns a find, ordered {o} ns a find")?;
     }
     Ok(())
@@ -65,8 +72,8 @@ fn main(rt: HostRuntime) -> io::Result<()> {
         .skip(1)
         .filter_map(|text| text.as_str().parse::<u16>().ok());
     let Some(held) = numbers.find(|n| *n > 0) else {
-        return run(rt, 40, 40, 1000, false);
+        return run(rt, 40, 40, 1000, None);
     };
     let among = numbers.last().unwrap_or(held);
-    run(rt, u32::from(held), u32::from(among), FINDS, true)
+    run(rt, u32::from(held), u32::from(among), FINDS, Some(ROUNDS))
 }

@@ -14,7 +14,7 @@ use crate::fronts;
 pub enum AnswerLine {
     // a line or a call was accepted
     Accepted,
-    // it was refused, with the number, the field and the code of the rule
+    // it was refused, with the number, the field and the code of the rule: numbers, since this layer knows no faults
     Refused {
         number: u16,
         field: u8,
@@ -29,7 +29,7 @@ pub enum AnswerLine {
     CheckWord {
         word: u64,
     },
-    // how many lines of a file were judged, accepted and refused
+    // how many lines of a file were judged, accepted and refused: three numbers, since this layer knows no files
     Receipt {
         judged: u32,
         accepted: u32,
@@ -72,7 +72,7 @@ impl AnswerLine {
     }
 }
 
-// Puts a text at `at`, and says where the next goes.
+// Puts a text at `at`, and says where the next goes: a line has three parts, and a writer of its own would be longer than that.
 fn put(out: &mut [u8], at: usize, text: &[u8]) -> usize
     requires { at + length text.now ≤ length out.old }
     ensures { Put out.old at text.now result out.new }

@@ -21,7 +21,7 @@ pub fn write_positions(out: &mut [u8], sums: &[i64]) -> Result<usize, OutputFaul
     Ok(at)
 }
 
-// Whether there is room for the lines of all sums.
+// Whether there is room for the lines of all sums. What is left of the room is counted down, since a sum of lengths could be too large.
 fn positions_fit(room: usize, sums: &[i64]) -> bool
     ensures { result ≡ nat_le (length (positions_text sums.now)) room }
 {
