@@ -10,8 +10,8 @@ ghost use Rattle.measure.specs.Sheets.{position_of, no_sheet, added, negated, re
 ghost use Rattle.measure.specs.Totals.{total_of};
 
 use crate::measure::Measure;
-use crate::sheet::{CELLS, Sheet};
-use life::{Key, Life};
+use crate::sheet::Sheet;
+use life::{CONTRACTS, Key, Life};
 use text::{Kind, Side};
 
 impl Sheet {
@@ -48,7 +48,7 @@ impl Measure for Sheet {
     ghost laws = { sheet_group };
 
     fn zero() -> Sheet {
-        Sheet { cells: [0; CELLS] }
+        Sheet { cells: [0; CONTRACTS] }
     }
 
     fn join(&mut self, other: &Sheet) {
