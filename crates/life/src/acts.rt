@@ -33,16 +33,13 @@ impl Life {
         })
     }
 
-    // The same time, quantity and price in a state. Written out: `..*self` does not go with a ghost field.
+    // The same time, quantity and price in a state.
     fn in_state(&self, state: State) -> Life
         ensures { parts result ≡ record { in_state = state; at_time = self.now.time; with_quantity = self.now.quantity; with_price = self.now.price } }
     {
-        Life {
-            state,
-            time: self.time,
-            quantity: self.quantity,
-            price: self.price,
-        }
+        let mut life = *self;
+        life.state = state;
+        life
     }
 
     // What an action does to a standing life, as `told` by its line: time, quantity and price. The life changes in place; a

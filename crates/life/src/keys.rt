@@ -9,8 +9,8 @@ use crate::key::Key;
 use std::cmp::Ordering;
 use text::{Kind, Side, Text};
 
-// A key names one of the 63 contracts, or none (0).
-const CONTRACTS: u8 = 64;
+// How many contract numbers a key may have: those of the 63 contracts, and 0 for none.
+pub const CONTRACTS: usize = 64;
 
 impl Key {
     // The one place where a key is made. None where the id has over 52 bytes, the contract number is over 63, the venue
@@ -25,7 +25,7 @@ impl Key {
     ) -> Option<Key>
         ensures { made result ≡ given kind id.now contract venue.now participant.now side }
     {
-        if contract >= CONTRACTS {
+        if usize::from(contract) >= CONTRACTS {
             return None;
         }
         let text = Text::new(id)?;
@@ -55,7 +55,8 @@ impl Key {
         ensures is { result ≡ rank_of (parts self.now) (parts other.now) }
         ensures strict { Strict }
     {
-        // Written out, the kinds by a test: with the derived `cmp`, or a chain from the kind on, a find takes 187 to 189 ns for 169.
+        // Written out, the kinds by a test. The bar is the time of a find in the form before (docs/FIGURES.md): with the derived `cmp`, or a chain
+        // from the kind on, a find takes 187 to 189 ns for 169.
         if self.kind != other.kind {
             return self.kind.cmp(&other.kind);
         }

@@ -14,6 +14,7 @@ pub use acts::{Outcome, first};
 pub use fault::{LifeFault, TableFault};
 pub use fnv::{hash, hash_on};
 pub use key::Key;
+pub use keys::CONTRACTS;
 pub use life::{Life, State};
 pub use store::{NoRoom, Store};
 pub use table_length::check_length;

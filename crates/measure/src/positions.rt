@@ -10,8 +10,9 @@ ghost use Rattle.measure.specs.Sheets.{position_of, no_sheet, added, negated, re
 ghost use Rattle.measure.specs.Totals.{total_of};
 
 use crate::measure::Measure;
-use crate::sheet::{CELLS, Sheet};
-use life::{Key, Life};
+use crate::sheet::Sheet;
+use life::{CONTRACTS, Key, Life};
+use std::array;
 use text::{Kind, Side};
 
 impl Sheet {
@@ -48,14 +49,13 @@ impl Measure for Sheet {
     ghost laws = { sheet_group };
 
     fn zero() -> Sheet {
-        Sheet { cells: [0; CELLS] }
+        Sheet {
+            cells: [0; CONTRACTS],
+        }
     }
 
     fn join(&mut self, other: &Sheet) {
-        // Counted: no clause says what the cells hold after a loop over `iter_mut` with `zip`.
-        for (i, cell) in self.cells.iter_mut().enumerate() {
-            *cell = cell.wrapping_add(other.cells[i]);
-        }
+        self.cells = array::from_fn(|i| self.cells[i].wrapping_add(other.cells[i]));
     }
 
     fn invert(&mut self) {

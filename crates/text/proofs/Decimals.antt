@@ -1,5 +1,6 @@
 -- A decimal, cut at its dot.
-use Rattle.std.proofs.Common.{◌≡◌, ℕ, ◌+◌, ◌-◌, ◌*◌, ◌^◌, ◌<◌, ◌≤◌, true, false, ◌&&◌, eqb, ltb, [], ◌∷◌, length, take, drop, IfSome, Some, None, Option, sym, refl, ap, ◌∙◌, ⊎_elim, arith}
+use Rattle.std.proofs.Common.{◌≡◌, ℕ, Bool, ◌+◌, ◌-◌, ◌*◌, ◌^◌, ◌<◌, ◌≤◌, true, false, ◌&&◌, eqb, ltb, [], ◌∷◌, length, take, drop, Some, None, Option, sym, refl, ap, ◌∙◌, ⊎_elim, arith}
+use Rattle.std.specs.Bool.{then_some}
 use Rattle.std.specs.Char.{is_ascii_digit}
 use Rattle.std.proofs.Math.Bool.{and-false}
 use Rattle.std.proofs.lemmas.List.{take_all, take_rest}
@@ -104,6 +105,7 @@ module _ (most limit w : ℕ) (s : Bytes) (e : w ≡ span_to 46 s) where
     pub both_parts : (m : ℕ) → Some m ≡ digits_form 5 (take (length s - (w + 1)) (drop (w + 1) s)) → at_most (limit * 100_000) (n * 100_000 + m * 10 ^ (5 - length (take (length s - (w + 1)) (drop (w + 1) s)))) ≡ decimal_form most limit s
     both_parts m g = sym (inside ∙ ap (λ o. then (then o (λ m. Some (n * 100_000 + m * 10 ^ (5 - length (take (length s - (w + 1)) (drop (w + 1) s)))))) (at_most (limit * 100_000))) (sym g))
 
-pub at_most_small : (limit n : ℕ) (o : Option ℕ) → o ≡ at_most limit n → IfSome o (λ v. v ≤ limit)
-at_most_small limit n None e = tt
-at_most_small limit n (Some v) e = grind (arith, nat_tests)
+-- a number that is kept where a test holds
+pub kept : (test : Bool) (n : ℕ) → then_some test n ≡ provided test n
+kept true n = refl
+kept false n = refl

@@ -66,7 +66,8 @@ impl ByteClass for LettersOrDigits {
     }
 }
 
-// Whether every byte is of the class, found with no way out early.
+// Whether every byte is of the class. By a fold with `&`, not `all`: the texts are short and are tested for every line, so no byte has a branch
+// of its own.
 pub fn all_of<C: ByteClass>(text: &[u8]) -> bool
     ensures { result ≡ every C.ByteClass.member text.now }
 {

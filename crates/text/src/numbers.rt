@@ -31,22 +31,6 @@ pub fn time_of(text: &[u8]) -> Option<u32>
     u32::try_from(digits_of(text, 10)?).ok()
 }
 
-// Ten to the power k.
-fn power(k: usize) -> u64
-    requires { k ≤ 5 }
-    ensures value { result ≡ 10 ^ k }
-    ensures small { result ≤ 100000 }
-{
-    10u64.pow(k as u32)
-}
-
-// The value, if it is not above the limit.
-fn bounded(v: u64, limit: u64) -> Option<u64>
-    ensures { result ≡ at_most limit v }
-{
-    (v <= limit).then_some(v)
-}
-
 // One to `most` digits, and after a dot one to five more, at most `limit`: the hundred-thousandths.
 fn decimal_of(text: &[u8], most: usize, limit: u64) -> Option<u64>
     requires digits { most ≤ 8 }
@@ -57,12 +41,14 @@ fn decimal_of(text: &[u8], most: usize, limit: u64) -> Option<u64>
     let w = span_to(text, b'.');
     let whole = digits_of(&text[..w], most)?;
     if w == text.len() {
-        return bounded(whole * 100000, limit * 100000);
+        let units = whole * 100000;
+        return (units <= limit * 100000).then_some(units);
     }
     let rest = &text[w + 1..];
     let part = digits_of(rest, 5)?;
-    let scaled = part * power(5 - rest.len());
-    bounded(whole * 100000 + scaled, limit * 100000)
+    let scaled = part * 10u64.pow(5 - rest.len() as u32);
+    let sum = whole * 100000 + scaled;
+    (sum <= limit * 100000).then_some(sum)
 }
 
 // A quantity in hundred-thousandths: a decimal of at most eight digits before the dot, at most ten million.

@@ -16,7 +16,7 @@ impl<const N: usize> PartialEq for Text<N> {
 
     ghost laws = { Prim.search (comparing, rules) };
 
-    // The bytes past the lengths are zero, so all N are compared, with no way out early.
+    // The bytes past the lengths are zero, so all N are compared: a fixed number, with no branch for each byte (see `same_places`).
     fn eq(&self, other: &Text<N>) -> bool {
         self.len == other.len && same_bytes(&self.bytes, &other.bytes)
     }

@@ -44,14 +44,14 @@ impl<const N: usize> Text<N> {
         &self.bytes[..self.len as usize]
     }
 
-    // Whether two texts are the same.
+    // Whether two texts are the same: the named promise beside `==`. No crate here calls it.
     pub fn same(&self, other: &Text<N>) -> bool
         ensures { result ≡ bytes_eq (text_of self.now) (text_of other.now) }
     {
         self == other
     }
 
-    // Which of two texts comes first.
+    // Which of two texts comes first: the named promise beside `cmp`. No crate here calls it.
     #[tactic(auto, using(crate::proofs::Compared::lex_order))]
     pub fn compare(&self, other: &Text<N>) -> Ordering
         ensures { result ≡ order (text_of self.now) (text_of other.now) }
@@ -68,14 +68,15 @@ impl<const N: usize> Default for Text<N> {
     }
 }
 
-// Whether two texts are the same, found with no way out early once they are as long as each other.
+// Whether two texts are the same. Texts as long as each other are compared to their ends: see `same_places`.
 pub fn same_bytes(a: &[u8], b: &[u8]) -> bool
     ensures { result ≡ bytes_eq a.now b.now }
 {
     a.len() == b.len() && same_places(a, b)
 }
 
-// Whether the bytes at each place are the same, found with no way out early.
+// Whether the bytes at each place are the same. By a fold with `&`, not `all`: the texts are short and are compared for every line, so no byte
+// has a branch of its own.
 fn same_places(a: &[u8], b: &[u8]) -> bool
     ensures { result ≡ fold (λ good p. good && (p.0 == p.1)) true (zip a.now b.now) }
 {
@@ -93,7 +94,8 @@ pub fn is_among<const N: usize>(texts: &[Text<N>], text: &[u8]) -> bool
     )
 }
 
-// Which of two texts comes first: by the first byte from the left that differs, and a text before what it begins.
+// Which of two texts comes first: by the first byte from the left that differs, and a text before what it begins. The named promise beside
+// the `cmp` of slices; no crate here calls it.
 #[tactic(auto, using(crate::proofs::Compared::lex_order))]
 pub fn compare_bytes(a: &[u8], b: &[u8]) -> Ordering
     ensures { result ≡ order a.now b.now }
