@@ -1,7 +1,7 @@
 // A table of slots: which slot has a key, and how a pair comes into its chain and out of it.
-ghost use Rattle.std.specs.Prelude.{◌≡◌, ℕ, ◌+◌, ◌-◌, ◌<◌, ◌≤◌, true, ◌∷◌, length, None, ◌≢◌, nat_le};
+ghost use Rattle.std.specs.Prelude.{◌≡◌, ℕ, ◌+◌, ◌-◌, ◌<◌, ◌≤◌, true, ◌∷◌, length, None, ◌≢◌, nat_le, unwrap_or};
 ghost use Rattle.life.specs.Pairs.{look, distinct};
-ghost use Rattle.chained.specs.Table.{room_of as room_in, Becomes, at, chain_of, pairs_of, re, Linked, Chains, Sound, Place, Found, Rewired, Paired, Kept, Whole, Spare, Emptied, Puts, Drops};
+ghost use Rattle.chained.specs.Table.{room_of as room_in, Becomes, at, chain_of, pairs_of, re, Linked, Chains, Sound, Spot, Place, Found, Rewired, Paired, Kept, Whole, Spare, Emptied, Puts, Drops};
 
 use crate::slot::Slot;
 use life::{Key, Life, NoRoom};
@@ -22,17 +22,16 @@ fn chain(key: &Key, n: usize) -> usize
 // The functions from here to `prepare` take the slots and how many are in use, not a `Table`: between their writes its invariant
 // does not hold.
 
-// Sets the link at `p`, or the head of the chain `b` where `p` is 0.
-fn set_link(slots: &mut [Slot], b: usize, p: usize, v: usize)
+// Sets the link at `p`, or the head of the chain `b` where `p` is None. In the contracts the number 0 stands for the head.
+fn set_link(slots: &mut [Slot], b: usize, p: Option<usize>, v: usize)
     requires chain { b < length slots.old }
-    requires place { p < length slots.old }
+    requires place { Spot p (length slots.old) }
     requires small { v ≤ 65536 }
-    ensures { Rewired slots.old slots.new b p v }
+    ensures { Rewired slots.old slots.new b (unwrap_or p 0) v }
 {
-    if p == 0 {
-        slots[b].head = v as u32;
-    } else {
-        slots[p].next = v as u32;
+    match p {
+        None => slots[b].head = v as u32,
+        Some(p) => slots[p].next = v as u32,
     }
 }
 
@@ -58,23 +57,24 @@ fn add(slots: &mut [Slot], count: usize, key: &Key, life: Life)
     let b = chain(key, slots.len());
     let t = count + 1;
     let first = slots[b].head as usize;
-    set_link(slots, b, t, first);
+    set_link(slots, b, Some(t), first);
     set_pair(slots, t, *key, life);
-    set_link(slots, b, 0, t);
+    set_link(slots, b, None, t);
 }
 
-// The place in the chain `b` whose link passes over `i`, or 0 for the head.
-fn place(slots: &[Slot], count: usize, b: usize, i: usize) -> usize
+// The place in the chain `b` whose link passes over `i`, or None for the head.
+fn place(slots: &[Slot], count: usize, b: usize, i: usize) -> Option<usize>
     requires chains { Chains slots.now count }
     requires fits { count < length slots.now }
     requires low { 0 < b }
     requires high { b < length slots.now }
-    ensures { Place slots.now count b i result }
+    ensures spot { Spot result (length slots.now) }
+    ensures passes { Place slots.now count b i (unwrap_or result 0) }
 {
-    let mut p = 0;
+    let mut p = None;
     let mut j = slots[b].head as usize;
     while j > i {
-        p = j;
+        p = Some(j);
         j = slots[j].next as usize;
     }
     p
@@ -112,21 +112,20 @@ fn link_in(slots: &mut [Slot], count: usize, b: usize, i: usize)
 {
     let p = place(slots, count, b, i);
     let after = link(slots, b, p);
-    set_link(slots, b, i, after);
+    set_link(slots, b, Some(i), after);
     set_link(slots, b, p, i);
 }
 
-// The link at `p`, or the head of the chain `b` where `p` is 0.
-fn link(slots: &[Slot], b: usize, p: usize) -> usize
+// The link at `p`, or the head of the chain `b` where `p` is None.
+fn link(slots: &[Slot], b: usize, p: Option<usize>) -> usize
     requires chain { b < length slots.now }
-    requires place { p < length slots.now }
-    ensures head { p ≡ 0 → result ≡ (at slots.now b).head }
-    ensures next { 0 < p → result ≡ (at slots.now p).next }
+    requires place { Spot p (length slots.now) }
+    ensures head { unwrap_or p 0 ≡ 0 → result ≡ (at slots.now b).head }
+    ensures next { 0 < unwrap_or p 0 → result ≡ (at slots.now (unwrap_or p 0)).next }
 {
-    if p == 0 {
-        slots[b].head as usize
-    } else {
-        slots[p].next as usize
+    match p {
+        None => slots[b].head as usize,
+        Some(p) => slots[p].next as usize,
     }
 }
 
