@@ -53,21 +53,3 @@ pub add-requires-clause-sound : goal.add-requires-clause-sound
 add-requires-clause-sound c =
     let s = c.args.self.now.slots.now in
     sound_with _ _ (opened c.args.self.now.ok) (leb-false (room_of s) _ (sym c.if-is_full.ensures))
-
-pub invariant_of-self-2 : goal.invariant_of-self-2
-invariant_of-self-2 c =
-    let then = held (whole _ _ c.add.ensures.sound) in
-    record { ok = then.in_chains; apart = then.apart; fits = then.within }
-
-pub returns : goal.returns
-returns c =
-    let s = c.args.self.now.slots.now in
-    let n = c.args.self.now.count in
-    let free : n < room_of s = leb-false (room_of s) n (sym c.if-is_full.ensures) in
-    record {
-      held = held (whole _ _ c.add.ensures.sound);
-      room = room_to _ _ c.add.auto.slots;
-      fits = sym (or_right _ _ (lt-ltb (length (pairs_of s n)) (room_of s) (omega (arith, pairs_length s n))));
-      holds = λ q. ap (look q) c.add.ensures.pairs ∙ sym (look_put q _ _ _);
-      leaves = record { size = c.add.auto.slots; spare = c.add.ensures.spare; unwritten = λ e. absurd (true≢false e) };
-    }

@@ -1,0 +1,42 @@
+use Rattle.std.proofs.Common.{◌+◌, ◌<◌, length, refl, sym, ap, ◌∙◌, arith, false, true≢false}
+use Rattle.std.proofs.lemmas.Bool.{or_right, lt-ltb}
+use Rattle.life.specs.Pairs.{look}
+use Rattle.life.proofs.Lookups.{look_put}
+use Rattle.chained.specs.declared.slot.Slot.{Slot}
+use Rattle.chained.specs.Table.{pairs_of, room_of}
+use Rattle.chained.proofs.Facts.{at_read, held, whole, room_to, room_small, pairs_length}
+use Rattle.chained.proofs.Links.{rewired_to, added, added_pairs}
+use Rattle.chained.proofs.table.Table.add.Goals as goal
+
+pub invariant_of-self : goal.invariant_of-self
+invariant_of-self c =
+    let s = c.args.self.now.slots.now in
+    let b = c.chain-b.ensures in
+    let room : c.args.self.now.count + 1 < length s = omega (arith, room_small s c.requires.sound.small, c.requires.room) in
+    let one = rewired_to c.set_link.ensures (ap (λ (x : Slot). x.head) (at_read s _ _ b.high)) in
+    let then = held (whole _ _ (added _ _ _ _ _ _ _ _ c.requires.sound room (c.requires.fresh.missed refl) b.is b.low b.high one c.set_pair.ensures c.set_link-2.ensures)) in
+    record { ok = then.in_chains; apart = then.apart; fits = then.within }
+
+pub returns : goal.returns
+returns c =
+    let s = c.args.self.now.slots.now in
+    let n = c.args.self.now.count in
+    let b = c.chain-b.ensures in
+    let room : n + 1 < length s = omega (arith, room_small s c.requires.sound.small, c.requires.room) in
+    let one = rewired_to c.set_link.ensures (ap (λ (x : Slot). x.head) (at_read s _ _ b.high)) in
+    let fresh = c.requires.fresh.missed refl in
+    let size = c.set_link-2.ensures.size ∙ c.set_pair.ensures.size ∙ c.set_link.ensures.size in
+    record {
+      held = held (whole _ _ (added _ _ _ _ _ _ _ _ c.requires.sound room fresh b.is b.low b.high one c.set_pair.ensures c.set_link-2.ensures));
+      room = room_to _ _ size;
+      fits = sym (or_right _ _ (lt-ltb (length (pairs_of s n)) (room_of s) (omega (arith, pairs_length s n, c.requires.room))));
+      holds = λ q. ap (look q) (added_pairs _ _ _ _ _ _ _ _ c.requires.sound room fresh b.is b.low b.high one c.set_pair.ensures c.set_link-2.ensures) ∙ sym (look_put q _ _ _);
+      leaves = record {
+        size = size;
+        spare = record {
+          keys = λ m f. c.set_link-2.ensures.keys m ∙ c.set_pair.ensures.key_else m (λ e. omega (arith, f (omega arith))) ∙ c.set_link.ensures.keys m;
+          lives = λ m f. c.set_link-2.ensures.lives m ∙ c.set_pair.ensures.life_else m (λ e. omega (arith, f (omega arith))) ∙ c.set_link.ensures.lives m;
+        };
+        unwritten = λ e. absurd (true≢false e);
+      };
+    }
