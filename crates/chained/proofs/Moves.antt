@@ -7,7 +7,7 @@ use Rattle.chained.specs.declared.slot.Slot.{Slot}
 use Rattle.life.specs.Keys.{alike as same}
 use Rattle.life.specs.Pairs.{look as lookup}
 use Rattle.life.proofs.Lookups.{look_erase}
-use Rattle.chained.specs.Table.{Becomes, at, chain_of, chain_at, pairs_of, room_of, re, Linked, Sound, Paired, Kept, Spare, Drops}
+use Rattle.chained.specs.Table.{Becomes, at, chain_of, chain_at, pairs_of, re, Linked, Sound, Paired, Kept, Spare, Drops}
 use Rattle.chained.proofs.Facts.{same_true, same_self, lookup_none, held, whole, room_to, room_small}
 use Rattle.chained.proofs.Chains.{lookup_some}
 use Rattle.chained.proofs.Links.{prev_to, chain_same, re_same, re_else}

@@ -19,8 +19,8 @@ fn chain(key: &Key, n: usize) -> usize
     1 + key.word as usize % (n - 1)
 }
 
-// The functions from here to `prepare` take the slots and how many are in use, not a `Table`: where they are called, between the
-// writes of `add` and `take_out`, its invariant does not hold.
+// The functions from here to `prepare` take slots, not a `Table`: they are called between the writes of `add` and `take_out`, where
+// its invariant does not hold.
 
 // Sets the link at `p`, or the head of the chain `b` where `p` is None. In the contracts the number 0 stands for the head.
 fn set_link(slots: &mut [Slot], b: usize, p: Option<usize>, v: usize)
@@ -54,6 +54,7 @@ fn place(slots: &[Slot], count: usize, b: usize, i: usize) -> Option<usize>
     ensures spot { Spot result (length slots.now) }
     ensures passes { Place slots.now count b i (unwrap_or result 0) }
 {
+    // A loop: it follows links from slot to slot, not a counted index.
     let mut p = None;
     let mut j = slots[b].head as usize;
     while j > i {
@@ -162,6 +163,7 @@ impl<'t> Table<'t> {
         if n < 2 || n > MOST {
             return None;
         }
+        // A loop: it follows links from slot to slot, not a counted index.
         let mut j = slots[chain(key, n)].head as usize;
         while j > 0 {
             let slot = &slots[j];
@@ -237,6 +239,7 @@ impl<'t> Table<'t> {
         requires high { i ≤ self.old.count }
         ensures { Drops self.old.slots.now self.old.count self.new.slots.now self.new.count (at self.old.slots.now i).key }
     {
+        // Through a reborrow, as in `add`.
         let slots = &mut *self.slots;
         let count = self.count;
         self.count -= 1;

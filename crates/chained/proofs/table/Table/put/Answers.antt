@@ -1,6 +1,5 @@
-use Rattle.std.proofs.Common.{◌<◌, ◌≤◌, length, is_some, sym, refl, ap, ◌∙◌, arith}
-use Rattle.std.proofs.lemmas.Bool.{true≢false, or_left, or_right, or_from, lt-ltb, le-ltb, leb-true, leb-false}
-use Rattle.life.specs.Pairs.{look}
+use Rattle.std.proofs.Common.{◌≤◌, length, is_some, sym, refl, ap, ◌∙◌, arith}
+use Rattle.std.proofs.lemmas.Bool.{true≢false, or_left, or_from, le-ltb, leb-true, leb-false}
 use Rattle.life.proofs.Lookups.{look_put}
 use Rattle.chained.specs.Table.{pairs_of, room_of}
 use Rattle.chained.proofs.Facts.{opened, held, whole, sound_at, sound_with, room_to, lookup_none, pairs_length}

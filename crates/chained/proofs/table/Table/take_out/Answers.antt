@@ -1,6 +1,6 @@
 use Rattle.std.proofs.Common.{◌-◌, ◌<◌, length, sym, ap, ◌∙◌, arith}
 use Rattle.chained.specs.declared.slot.Slot.{Slot}
-use Rattle.chained.specs.Table.{chain_of, chain_at, at, Spare}
+use Rattle.chained.specs.Table.{chain_of, chain_at, Spare}
 use Rattle.chained.proofs.Facts.{at_read}
 use Rattle.chained.proofs.Links.{paired_to}
 use Rattle.chained.proofs.Moves.{last_sound, last_becomes, k3, taken_sound, taken_becomes, drops}
