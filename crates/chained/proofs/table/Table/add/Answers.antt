@@ -1,24 +1,16 @@
-use Rattle.std.proofs.Common.{◌+◌, ◌<◌, length, refl, sym, ap, ◌∙◌, arith, true≢false}
+use Rattle.std.proofs.Common.{Ok, ◌+◌, ◌<◌, length, refl, sym, ap, ◌∙◌, arith, true≢false}
 use Rattle.std.proofs.lemmas.Bool.{or_right, lt-ltb}
 use Rattle.life.specs.Pairs.{look}
 use Rattle.life.proofs.Lookups.{look_put}
 use Rattle.chained.specs.declared.slot.Slot.{Slot}
-use Rattle.chained.specs.Table.{pairs_of, room_of}
+use Rattle.chained.specs.Table.{pairs_of, room_of, Puts}
 use Rattle.chained.proofs.Facts.{at_read, held, whole, room_to, room_small, pairs_length}
 use Rattle.chained.proofs.Links.{rewired_to, added, added_pairs}
 use Rattle.chained.proofs.table.Table.add.Goals as goal
+use Rattle.chained.proofs.table.Table.add.Goals.{After-set_link-2}
 
-pub invariant_of-self : goal.invariant_of-self
-invariant_of-self c =
-    let s = c.args.self.now.slots.now in
-    let b = c.chain-b.ensures in
-    let room : c.args.self.now.count + 1 < length s = omega (arith, room_small s c.requires.sound.small, c.requires.room) in
-    let one = rewired_to c.set_link.ensures (ap (λ (x : Slot). x.head) (at_read s _ _ b.high)) in
-    let then = held (whole _ _ (added _ _ _ _ _ _ _ _ c.requires.sound room (c.requires.fresh.missed refl) b.is b.low b.high one c.set_pair.ensures c.set_link-2.ensures)) in
-    record { ok = then.in_chains; apart = then.apart; fits = then.within }
-
-pub returns : goal.returns
-returns c =
+put_in : (c : After-set_link-2) → Puts c.args.self.now.slots.now c.args.self.now.count c.set_link-2.new.slots (c.args.self.now.count + 1) c.args.key.now c.args.life (Ok tt)
+put_in c =
     let s = c.args.self.now.slots.now in
     let n = c.args.self.now.count in
     let b = c.chain-b.ensures in
@@ -40,3 +32,11 @@ returns c =
         unwritten = λ e. absurd (true≢false e);
       };
     }
+
+pub invariant_of-self : goal.invariant_of-self
+invariant_of-self c =
+    let then = (put_in (goal.at.invariant_of-self c).After-set_link-2).held in
+    record { ok = then.in_chains; apart = then.apart; fits = then.within }
+
+pub returns : goal.returns
+returns c = put_in (goal.at.returns c).After-set_link-2
