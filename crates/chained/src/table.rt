@@ -207,7 +207,6 @@ impl<'t> Table<'t> {
 
     // Takes the slot after the last one in use for a new key.
     fn add(&mut self, key: &Key, life: Life)
-        requires sound { Sound self.old.slots.now self.old.count }
         requires room { self.old.count < room_in self.old.slots.now }
         requires fresh { Found self.old.slots.now self.old.count key.now None }
         ensures { Puts self.old.slots.now self.old.count self.new.slots.now self.new.count key.now life (Ok tt) }
@@ -233,6 +232,7 @@ impl<'t> Table<'t> {
     }
 
     // Takes the slot `i` out of use. The last slot in use moves to its place.
+    // `sound` follows from the invariant where a slot is in use. It is a clause, since the bounds of the calls below rest on it.
     fn take_out(&mut self, i: usize)
         requires sound { Sound self.old.slots.now self.old.count }
         requires low { 0 < i }

@@ -1,8 +1,8 @@
 use Rattle.std.proofs.Common.{◌≤◌, length, is_some, sym, refl, ap, ◌∙◌, arith}
-use Rattle.std.proofs.lemmas.Bool.{true≢false, or_left, or_from, le-ltb, leb-true, leb-false}
+use Rattle.std.proofs.lemmas.Bool.{true≢false, or_left, or_from, le-ltb, leb-true}
 use Rattle.life.proofs.Lookups.{look_put}
 use Rattle.chained.specs.Table.{pairs_of, room_of}
-use Rattle.chained.proofs.Facts.{opened, held, whole, sound_at, sound_with, room_to, lookup_none, pairs_length}
+use Rattle.chained.proofs.Facts.{opened, held, whole, sound_at, room_to, lookup_none, pairs_length}
 use Rattle.chained.proofs.Chains.{lookup_some}
 use Rattle.chained.proofs.Moves.{held_sound, held_becomes}
 use Rattle.chained.proofs.table.Table.put.Goals as goal
@@ -47,8 +47,3 @@ returns-then-is_full c =
       holds = λ q. refl;
       leaves = record { size = refl; spare = record { keys = λ m _. refl; lives = λ m _. refl }; unwritten = λ _. (refl, refl) };
     }
-
-pub add-requires-clause-sound : goal.add-requires-clause-sound
-add-requires-clause-sound c =
-    let s = c.args.self.now.slots.now in
-    sound_with _ _ (opened c.args.self.now.ok) (leb-false (room_of s) _ (sym c.if-is_full.ensures))
