@@ -6,8 +6,9 @@ use Rattle.life.specs.declared.life.Life.{Life}
 use Rattle.chained.specs.declared.slot.Slot.{Slot}
 use Rattle.life.specs.Keys.{alike as same}
 use Rattle.life.specs.Pairs.{look as lookup}
-use Rattle.chained.specs.Table.{Becomes, at, chain_of, chain_at, pairs_of, re, Linked, Sound, Paired, Kept}
-use Rattle.chained.proofs.Facts.{same_true, same_self, lookup_none}
+use Rattle.life.proofs.Lookups.{look_erase}
+use Rattle.chained.specs.Table.{Becomes, at, chain_of, chain_at, pairs_of, re, Linked, Sound, Paired, Kept, Spare, Drops}
+use Rattle.chained.proofs.Facts.{same_true, same_self, lookup_none, held, whole, room_to, room_small}
 use Rattle.chained.proofs.Chains.{lookup_some}
 use Rattle.chained.proofs.Links.{prev_to, chain_same, re_same, re_else}
 
@@ -181,6 +182,20 @@ module _ (s u v : List Slot) (c i d : ℕ) (old : Sound s c) (some : 0 < i) (les
 
       pub taken_becomes : Becomes (pairs_of s c) (pairs_of t (c - 1)) (at s i).key None
       taken_becomes = becomes s t c i moved some (omega arith) old.apart
+
+-- what is promised of a table from which a slot was taken
+pub drops : (s t : List Slot) (c i : ℕ) → Sound s c → 0 < i → i ≤ c → length t ≡ length s → Spare s t (c - 1) → Sound t (c - 1)
+    → Becomes (pairs_of s c) (pairs_of t (c - 1)) (at s i).key None → Drops s c t (c - 1) (at s i).key
+drops s t c i old some within size spare new gone = record {
+  held = held (whole _ _ new);
+  room = room_to _ _ size;
+  holds = λ q. gone q ∙ sym (look_erase q _ _);
+  leaves = record {
+    size = size;
+    spare = spare;
+    unwritten = λ z. absurd (omega (arith, z, room_small s old.small, old.fits));
+  };
+}
 
 -- a life is replaced
 module _ (s t : List Slot) (c i : ℕ) (k : Key) (l : Life) (old : Sound s c) (some : 0 < i) (within : i ≤ c) (held : (at s i).key ≡ k) (one : Paired s t i k l) where

@@ -69,6 +69,12 @@ abbrev pub Found : List Slot → ℕ → Key → Option ℕ → Type 0
 Found s c k None = Sought s c k 0
 Found s c k (Some i) = (0 < i) × Sought s c k i
 
+-- where a link stands in a table of n slots: None for the head of a chain, and Some p for the next of the slot p, which is not 0;
+-- so its number can be 0 for the head
+abbrev pub Spot : Option ℕ → ℕ → Type 0
+Spot None n = Unit {0}
+Spot (Some p) n = (0 < p) × (p < n)
+
 -- p is the place in the chain b whose link passes over i, or 0 for the head
 pub record Place (s : List Slot) (c b i p : ℕ) : Type 0 where
   pub within : p ≤ c

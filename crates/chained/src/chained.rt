@@ -8,6 +8,7 @@ use crate::slot::Slot;
 use crate::table::{MOST, Table};
 use life::{Key, Life, NoRoom, Store, TableFault, check_length};
 
+// Two layers are a rule of the project: a plain table that holds the lent slice, and around it the store with its promises.
 #[derive(Drop)]
 pub struct Chained<'t> {
     table: Table<'t>,

@@ -1,7 +1,7 @@
 // A table of slots: which slot has a key, and how a pair comes into its chain and out of it.
-ghost use Rattle.std.specs.Prelude.{◌≡◌, ℕ, ◌+◌, ◌-◌, ◌<◌, ◌≤◌, true, ◌∷◌, length, None, ◌≢◌, nat_le};
+ghost use Rattle.std.specs.Prelude.{◌≡◌, ℕ, ◌+◌, ◌-◌, ◌<◌, ◌≤◌, true, ◌∷◌, length, None, Ok, ◌≢◌, nat_le, unwrap_or};
 ghost use Rattle.life.specs.Pairs.{look, distinct};
-ghost use Rattle.chained.specs.Table.{room_of as room_in, Becomes, at, chain_of, pairs_of, re, Linked, Chains, Sound, Place, Found, Rewired, Paired, Kept, Whole, Spare, Emptied, Puts, Drops};
+ghost use Rattle.chained.specs.Table.{room_of as room_in, Becomes, at, chain_of, pairs_of, re, Linked, Chains, Sound, Spot, Place, Found, Rewired, Paired, Kept, Whole, Spare, Emptied, Puts, Drops};
 
 use crate::slot::Slot;
 use life::{Key, Life, NoRoom};
@@ -19,20 +19,19 @@ fn chain(key: &Key, n: usize) -> usize
     1 + key.word as usize % (n - 1)
 }
 
-// The functions from here to `prepare` take the slots and how many are in use, not a `Table`: between their writes its invariant
-// does not hold.
+// The functions from here to `prepare` take slots, not a `Table`: they are called between the writes of `add` and `take_out`, where
+// its invariant does not hold.
 
-// Sets the link at `p`, or the head of the chain `b` where `p` is 0.
-fn set_link(slots: &mut [Slot], b: usize, p: usize, v: usize)
+// Sets the link at `p`, or the head of the chain `b` where `p` is None. In the contracts the number 0 stands for the head.
+fn set_link(slots: &mut [Slot], b: usize, p: Option<usize>, v: usize)
     requires chain { b < length slots.old }
-    requires place { p < length slots.old }
+    requires place { Spot p (length slots.old) }
     requires small { v ≤ 65536 }
-    ensures { Rewired slots.old slots.new b p v }
+    ensures { Rewired slots.old slots.new b (unwrap_or p 0) v }
 {
-    if p == 0 {
-        slots[b].head = v as u32;
-    } else {
-        slots[p].next = v as u32;
+    match p {
+        None => slots[b].head = v as u32,
+        Some(p) => slots[p].next = v as u32,
     }
 }
 
@@ -46,35 +45,20 @@ fn set_pair(slots: &mut [Slot], i: usize, key: Key, life: Life)
     slot.life = life;
 }
 
-// Takes the slot after the last one in use for a new key.
-fn add(slots: &mut [Slot], count: usize, key: &Key, life: Life)
-    requires sound { Sound slots.old count }
-    requires room { count + 1 < length slots.old }
-    requires fresh { (m : ℕ) → 0 < m → m ≤ count → (at slots.old m).key ≢ key.now }
-    ensures sound { Sound slots.new (count + 1) }
-    ensures spare { Spare slots.old slots.new (count + 1) }
-    ensures pairs { pairs_of slots.new (count + 1) ≡ (key.now, life) ∷ pairs_of slots.old count }
-{
-    let b = chain(key, slots.len());
-    let t = count + 1;
-    let first = slots[b].head as usize;
-    set_link(slots, b, t, first);
-    set_pair(slots, t, *key, life);
-    set_link(slots, b, 0, t);
-}
-
-// The place in the chain `b` whose link passes over `i`, or 0 for the head.
-fn place(slots: &[Slot], count: usize, b: usize, i: usize) -> usize
+// The place in the chain `b` whose link passes over `i`, or None for the head.
+fn place(slots: &[Slot], count: usize, b: usize, i: usize) -> Option<usize>
     requires chains { Chains slots.now count }
     requires fits { count < length slots.now }
     requires low { 0 < b }
     requires high { b < length slots.now }
-    ensures { Place slots.now count b i result }
+    ensures spot { Spot result (length slots.now) }
+    ensures passes { Place slots.now count b i (unwrap_or result 0) }
 {
-    let mut p = 0;
+    // A loop: it follows links from slot to slot, not a counted index.
+    let mut p = None;
     let mut j = slots[b].head as usize;
     while j > i {
-        p = j;
+        p = Some(j);
         j = slots[j].next as usize;
     }
     p
@@ -112,44 +96,21 @@ fn link_in(slots: &mut [Slot], count: usize, b: usize, i: usize)
 {
     let p = place(slots, count, b, i);
     let after = link(slots, b, p);
-    set_link(slots, b, i, after);
+    set_link(slots, b, Some(i), after);
     set_link(slots, b, p, i);
 }
 
-// The link at `p`, or the head of the chain `b` where `p` is 0.
-fn link(slots: &[Slot], b: usize, p: usize) -> usize
+// The link at `p`, or the head of the chain `b` where `p` is None.
+fn link(slots: &[Slot], b: usize, p: Option<usize>) -> usize
     requires chain { b < length slots.now }
-    requires place { p < length slots.now }
-    ensures head { p ≡ 0 → result ≡ (at slots.now b).head }
-    ensures next { 0 < p → result ≡ (at slots.now p).next }
+    requires place { Spot p (length slots.now) }
+    ensures head { unwrap_or p 0 ≡ 0 → result ≡ (at slots.now b).head }
+    ensures next { 0 < unwrap_or p 0 → result ≡ (at slots.now (unwrap_or p 0)).next }
 {
-    if p == 0 {
-        slots[b].head as usize
-    } else {
-        slots[p].next as usize
+    match p {
+        None => slots[b].head as usize,
+        Some(p) => slots[p].next as usize,
     }
-}
-
-// Takes the slot `i` out of use. The last slot in use moves to its place.
-fn take_out(slots: &mut [Slot], count: usize, i: usize)
-    requires sound { Sound slots.old count }
-    requires low { 0 < i }
-    requires high { i ≤ count }
-    ensures sound { Sound slots.new (count - 1) }
-    ensures spare { Spare slots.old slots.new (count - 1) }
-    ensures gone { Becomes (pairs_of slots.old count) (pairs_of slots.new (count - 1)) (at slots.old i).key None }
-{
-    let n = slots.len();
-    let b = chain(&slots[i].key, n);
-    unlink(slots, count, b, i);
-    if i == count {
-        return;
-    }
-    let last = slots[count];
-    let d = chain(&last.key, n);
-    unlink(slots, count, d, count);
-    set_pair(slots, i, last.key, last.life);
-    link_in(slots, count, d, i);
 }
 
 // Ends every chain, unless there are too many slots.
@@ -202,6 +163,7 @@ impl<'t> Table<'t> {
         if n < 2 || n > MOST {
             return None;
         }
+        // A loop: it follows links from slot to slot, not a counted index.
         let mut j = slots[chain(key, n)].head as usize;
         while j > 0 {
             let slot = &slots[j];
@@ -239,9 +201,25 @@ impl<'t> Table<'t> {
         if self.is_full() {
             return Err(NoRoom);
         }
-        add(self.slots, self.count, key, life);
-        self.count += 1;
+        self.add(key, life);
         Ok(())
+    }
+
+    // Takes the slot after the last one in use for a new key.
+    fn add(&mut self, key: &Key, life: Life)
+        requires room { self.old.count < room_in self.old.slots.now }
+        requires fresh { Found self.old.slots.now self.old.count key.now None }
+        ensures { Puts self.old.slots.now self.old.count self.new.slots.now self.new.count key.now life (Ok tt) }
+    {
+        // Between the writes the invariant does not hold. They go through a reborrow, so that it has to hold again only at the end.
+        let slots = &mut *self.slots;
+        let b = chain(key, slots.len());
+        let t = self.count + 1;
+        let first = slots[b].head as usize;
+        set_link(slots, b, Some(t), first);
+        set_pair(slots, t, *key, life);
+        set_link(slots, b, None, t);
+        self.count = t;
     }
 
     // Takes away the pair at the key, if there is one.
@@ -249,9 +227,33 @@ impl<'t> Table<'t> {
         ensures { Drops self.old.slots.now self.old.count self.new.slots.now self.new.count key.now }
     {
         if let Some(i) = self.place_of(key) {
-            take_out(self.slots, self.count, i);
-            self.count -= 1;
+            self.take_out(i);
         }
+    }
+
+    // Takes the slot `i` out of use. The last slot in use moves to its place.
+    // `sound` follows from the invariant where a slot is in use. It is a clause, since the bounds of the calls below rest on it.
+    fn take_out(&mut self, i: usize)
+        requires sound { Sound self.old.slots.now self.old.count }
+        requires low { 0 < i }
+        requires high { i ≤ self.old.count }
+        ensures { Drops self.old.slots.now self.old.count self.new.slots.now self.new.count (at self.old.slots.now i).key }
+    {
+        // Through a reborrow, as in `add`.
+        let slots = &mut *self.slots;
+        let count = self.count;
+        self.count -= 1;
+        let n = slots.len();
+        let b = chain(&slots[i].key, n);
+        unlink(slots, count, b, i);
+        if i == count {
+            return;
+        }
+        let last = slots[count];
+        let d = chain(&last.key, n);
+        unlink(slots, count, d, count);
+        set_pair(slots, i, last.key, last.life);
+        link_in(slots, count, d, i);
     }
 
     // Takes every pair away. A table with too many slots is left alone.

@@ -1,9 +1,8 @@
-use Rattle.std.proofs.Common.{◌<◌, ◌≤◌, length, is_some, sym, refl, ap, ◌∙◌, arith}
-use Rattle.std.proofs.lemmas.Bool.{true≢false, or_left, or_right, or_from, lt-ltb, le-ltb, leb-true, leb-false}
-use Rattle.life.specs.Pairs.{look}
+use Rattle.std.proofs.Common.{◌≤◌, length, is_some, sym, refl, ap, ◌∙◌, arith}
+use Rattle.std.proofs.lemmas.Bool.{true≢false, or_left, or_from, le-ltb, leb-true}
 use Rattle.life.proofs.Lookups.{look_put}
 use Rattle.chained.specs.Table.{pairs_of, room_of}
-use Rattle.chained.proofs.Facts.{opened, held, whole, sound_at, sound_with, room_to, lookup_none, pairs_length}
+use Rattle.chained.proofs.Facts.{opened, held, whole, sound_at, room_to, lookup_none, pairs_length}
 use Rattle.chained.proofs.Chains.{lookup_some}
 use Rattle.chained.proofs.Moves.{held_sound, held_becomes}
 use Rattle.chained.proofs.table.Table.put.Goals as goal
@@ -47,27 +46,4 @@ returns-then-is_full c =
       fits = sym (or_from _ _ (ap is_some (lookup_none _ _ _ (c.in_default.ensures.missed refl))) (le-ltb (length (pairs_of s n)) (room_of s) (omega (arith, pairs_length s n))));
       holds = λ q. refl;
       leaves = record { size = refl; spare = record { keys = λ m _. refl; lives = λ m _. refl }; unwritten = λ _. (refl, refl) };
-    }
-
-pub add-requires-clause-sound : goal.add-requires-clause-sound
-add-requires-clause-sound c =
-    let s = c.args.self.now.slots.now in
-    sound_with _ _ (opened c.args.self.now.ok) (leb-false (room_of s) _ (sym c.if-is_full.ensures))
-
-pub invariant_of-self-2 : goal.invariant_of-self-2
-invariant_of-self-2 c =
-    let then = held (whole _ _ c.add.ensures.sound) in
-    record { ok = then.in_chains; apart = then.apart; fits = then.within }
-
-pub returns : goal.returns
-returns c =
-    let s = c.args.self.now.slots.now in
-    let n = c.args.self.now.count in
-    let free : n < room_of s = leb-false (room_of s) n (sym c.if-is_full.ensures) in
-    record {
-      held = held (whole _ _ c.add.ensures.sound);
-      room = room_to _ _ c.add.auto.slots;
-      fits = sym (or_right _ _ (lt-ltb (length (pairs_of s n)) (room_of s) (omega (arith, pairs_length s n))));
-      holds = λ q. ap (look q) c.add.ensures.pairs ∙ sym (look_put q _ _ _);
-      leaves = record { size = c.add.auto.slots; spare = c.add.ensures.spare; unwritten = λ e. absurd (true≢false e) };
     }
