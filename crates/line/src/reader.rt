@@ -3,7 +3,7 @@
 ghost use Rattle.std.specs.Prelude.{◌≡◌, ℕ, ◌+◌, List, drop, Option};
 ghost use Rattle.text.specs.Forms.{kind_form, id_form, venue_form, code_form, side_form, action_form, time_form, quantity_form, price_form, names_form};
 ghost use Rattle.line.specs.declared.faults.ReadFault.TheVariants.{Form};
-ghost use Rattle.line.specs.Reads.{front, pace, next_field, formed, read, past, seen, seen_in, as_read, as_word, as_number, as_price, as_names};
+ghost use Rattle.line.specs.Reads.{front, pace, next_field, formed, read, Moved, seen, seen_in, as_read, as_word, as_number, as_price, as_names};
 
 use crate::faults::ReadFault;
 use crate::parts::Part;
@@ -117,8 +117,7 @@ impl<'a> Reader<'a> {
             × (text.now ≡ front (drop self.old.place.at self.old.line.now))
             × F.post said text self.old.place.at answer
             × (result ≡ formed (λ v. v) answer (next_field self.old.place.field) self.old.place.at) }
-        ensures place { self.new.place ≡ past self.old.place self.old.line.now result }
-        ensures line { self.new.line.now ≡ self.old.line.now }
+        ensures moved { Moved self.old self.new result }
     {
         let start = self.place;
         let mut guard = Rewind {
@@ -134,8 +133,7 @@ impl<'a> Reader<'a> {
     // The value that a field writes by its form.
     pub fn value<F: FieldForm>(&mut self) -> Result<F, ReadFault>
         ensures told { result ≡ read as_read F.FieldForm.form self.old.place self.old.line.now }
-        ensures place { self.new.place ≡ past self.old.place self.old.line.now result }
-        ensures line { self.new.line.now ≡ self.old.line.now }
+        ensures moved { Moved self.old self.new result }
     {
         // the path `F::said_by` in place of the closure gets no proof
         self.field(|text, _| F::said_by(text))
@@ -144,8 +142,7 @@ impl<'a> Reader<'a> {
     // From `least` to `most` id bytes.
     pub fn id(&mut self, least: usize, most: usize) -> Result<Part<'a>, ReadFault>
         ensures told { seen_in result ≡ read as_word (id_form least most) self.old.place self.old.line.now }
-        ensures place { self.new.place ≡ past self.old.place self.old.line.now result }
-        ensures line { self.new.line.now ≡ self.old.line.now }
+        ensures moved { Moved self.old self.new result }
     {
         self.field(|text, at| is_id(text, least, most).then(|| word(text, at)))
     }
@@ -153,8 +150,7 @@ impl<'a> Reader<'a> {
     // Four capital letters or digits.
     pub fn venue(&mut self) -> Result<Part<'a>, ReadFault>
         ensures told { seen_in result ≡ read as_word venue_form self.old.place self.old.line.now }
-        ensures place { self.new.place ≡ past self.old.place self.old.line.now result }
-        ensures line { self.new.line.now ≡ self.old.line.now }
+        ensures moved { Moved self.old self.new result }
     {
         self.field(|text, at| is_venue(text).then(|| word(text, at)))
     }
@@ -162,8 +158,7 @@ impl<'a> Reader<'a> {
     // An ACER code.
     pub fn code(&mut self) -> Result<Part<'a>, ReadFault>
         ensures told { seen_in result ≡ read as_word code_form self.old.place self.old.line.now }
-        ensures place { self.new.place ≡ past self.old.place self.old.line.now result }
-        ensures line { self.new.line.now ≡ self.old.line.now }
+        ensures moved { Moved self.old self.new result }
     {
         self.field(|text, at| is_code(text).then(|| word(text, at)))
     }
@@ -171,8 +166,7 @@ impl<'a> Reader<'a> {
     // A time in seconds.
     pub fn time(&mut self) -> Result<Part<'a>, ReadFault>
         ensures told { seen_in result ≡ read as_number time_form self.old.place self.old.line.now }
-        ensures place { self.new.place ≡ past self.old.place self.old.line.now result }
-        ensures line { self.new.line.now ≡ self.old.line.now }
+        ensures moved { Moved self.old self.new result }
     {
         self.field(|text, at| {
             let value = time_of(text)? as u64;
@@ -183,8 +177,7 @@ impl<'a> Reader<'a> {
     // A quantity in hundred-thousandths.
     pub fn quantity(&mut self) -> Result<Part<'a>, ReadFault>
         ensures told { seen_in result ≡ read as_number quantity_form self.old.place self.old.line.now }
-        ensures place { self.new.place ≡ past self.old.place self.old.line.now result }
-        ensures line { self.new.line.now ≡ self.old.line.now }
+        ensures moved { Moved self.old self.new result }
     {
         self.field(|text, at| {
             let value = quantity_of(text)?;
@@ -195,8 +188,7 @@ impl<'a> Reader<'a> {
     // A price in hundred-thousandths, or a blank.
     pub fn price(&mut self) -> Result<Part<'a>, ReadFault>
         ensures told { seen_in result ≡ read as_price price_form self.old.place self.old.line.now }
-        ensures place { self.new.place ≡ past self.old.place self.old.line.now result }
-        ensures line { self.new.line.now ≡ self.old.line.now }
+        ensures moved { Moved self.old self.new result }
     {
         self.field(|text, at| Some(signed(price_of(text)?, text, at)))
     }
@@ -204,8 +196,7 @@ impl<'a> Reader<'a> {
     // A list of names.
     pub fn names(&mut self) -> Result<Part<'a>, ReadFault>
         ensures told { seen_in result ≡ read as_names names_form self.old.place self.old.line.now }
-        ensures place { self.new.place ≡ past self.old.place self.old.line.now result }
-        ensures line { self.new.line.now ≡ self.old.line.now }
+        ensures moved { Moved self.old self.new result }
     {
         self.field(|text, at| {
             let names = Names::of(text)?;

@@ -24,22 +24,22 @@ at_id c = begun _ _ _ _ _ c.new-reader.ensures.place c.new-reader.ensures.line
 past_id : (c : goal.In_ok-id) → At c.args.text.now 1 c.id.new.self.place c.id.new.self.line.now × Says as_word (id_form 1 32) 0 c.args.text.now (seen c.in_ok-id.id)
 past_id c =
     let p = c.in_ok-id.ensures in
-    onward as_word (id_form 1 32) 0 (omega arith) (omega (arith, c.requires)) (at_id (goal.at.In_ok-id c).After-new-reader) p.told p.place p.line
+    onward as_word (id_form 1 32) 0 (omega arith) (omega (arith, c.requires)) (at_id (goal.at.In_ok-id c).After-new-reader) p.told p.moved.place p.moved.line
 
 past_kind : (c : goal.In_ok-kind) → At c.args.text.now 2 c.value.new.self.place c.value.new.self.line.now × Says as_read type_form 1 c.args.text.now c.in_ok-kind.kind
 past_kind c =
     let p = c.in_ok-kind.ensures in
-    onward as_read type_form 1 (omega arith) (omega (arith, c.requires)) (past_id (goal.at.In_ok-kind c).In_ok-id).0 p.told p.place p.line
+    onward as_read type_form 1 (omega arith) (omega (arith, c.requires)) (past_id (goal.at.In_ok-kind c).In_ok-id).0 p.told p.moved.place p.moved.line
 
 past_style : (c : goal.In_ok-style) → At c.args.text.now 3 c.value-2.new.self.place c.value-2.new.self.line.now × Says as_read style_said 2 c.args.text.now c.in_ok-style.style
 past_style c =
     let p = c.in_ok-style.ensures in
-    onward as_read style_said 2 (omega arith) (omega (arith, c.requires)) (restyled (past_kind (goal.at.In_ok-style c).In_ok-kind).0) p.told p.place p.line
+    onward as_read style_said 2 (omega arith) (omega (arith, c.requires)) (restyled (past_kind (goal.at.In_ok-style c).In_ok-kind).0) p.told p.moved.place p.moved.line
 
 past_names : (c : goal.In_ok-names) → At c.args.text.now 4 c.names.new.self.place c.names.new.self.line.now × Says as_names names_form 3 c.args.text.now (seen c.in_ok-names.names)
 past_names c =
     let p = c.in_ok-names.ensures in
-    onward as_names names_form 3 (omega arith) (omega (arith, c.requires)) (past_style (goal.at.In_ok-names c).In_ok-style).0 p.told p.place p.line
+    onward as_names names_form 3 (omega arith) (omega (arith, c.requires)) (past_style (goal.at.In_ok-names c).In_ok-style).0 p.told p.moved.place p.moved.line
 
 pub returns-in_err-id : goal.returns-in_err-id
 returns-in_err-id c =
