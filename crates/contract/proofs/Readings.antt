@@ -7,7 +7,7 @@ use Rattle.text.specs.Forms.{id_form}
 use Rattle.text.specs.Rows.{Row, first_fit, fields, Refusal, Refused, settled_by}
 use Rattle.line.specs.declared.faults.ReadFault.{ReadFault}
 use Rattle.line.specs.declared.faults.ReadFault.TheVariants.{Form}
-use Rattle.line.specs.declared.place.Place.{Place}
+use Rattle.line.specs.declared.reader.Reader.{Reader}
 use Rattle.line.proofs.Stages.{Reached, form_row}
 use Rattle.contract.specs.declared.faults.ContractFault.TheVariants as fault
 use Rattle.contract.specs.declared.held.HeldContract.{HeldContract}
@@ -50,8 +50,8 @@ style_value None y e = absurd (let z : ◌≡◌ {A = ℕ} 0 1 = cc in omega ari
 style_value (Some s) y e = let n : as_style s ≡ y = cc in ap style_of (sym n)
 
 -- the row of the style, by the style as the code has it
-pub restyled : {V : Type 0} {bs : Bytes} {all : List (Row Bytes)} {v : V} {p : Place} {line : Bytes} {k n f : ℕ} {rows : List (Row Bytes)}
-    → Reached bs all v p line k (form_row n f style_form ∷ rows) → Reached bs all v p line k (form_row n f style_said ∷ rows)
+pub restyled : {V : Type 0} {bs : Bytes} {all : List (Row Bytes)} {v : V} {r : Reader} {k n f : ℕ} {rows : List (Row Bytes)}
+    → Reached bs all v r k (form_row n f style_form ∷ rows) → Reached bs all v r k (form_row n f style_said ∷ rows)
 restyled {bs = bs} {v = v} {n = n} {f = f} {rows = rows} h = record {
   there = h.there;
   count = h.count;

@@ -43,7 +43,7 @@ impl ContractFault {
         }
     }
 
-    // The field, or 0 where none is named.
+    // The field, or 0 where none is named. 0, and not an Option: it is the number that is published for no field.
     pub fn field(&self) -> u8
         ensures { result ≡ field_of self.now }
     {
@@ -56,7 +56,8 @@ impl ContractFault {
         }
     }
 
-    // The offset of the field's first byte, or 0 where none is named.
+    // The offset of the field's first byte, or 0 where none is named. 0, and not an Option: it is the number that is
+    // published for no offset.
     pub fn offset(&self) -> usize
         ensures { result ≡ offset_of self.now }
     {

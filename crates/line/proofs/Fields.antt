@@ -1,14 +1,15 @@
 -- The fields that a reader comes to are those of the line cut at its semicolons.
-use Rattle.std.proofs.Common.{◌≡◌, ℕ, zero, suc, ◌+◌, ◌<◌, true, false, cond, eqb, ltb, List, [], ◌∷◌, length, drop, count_by, sym, refl, ap, ◌∙◌, ⊎_elim, add_assoc, arith}
+use Rattle.std.proofs.Common.{◌≡◌, ℕ, zero, suc, ◌+◌, ◌<◌, true, false, eqb, ltb, List, ◌∷◌, length, drop, count_by, sym, refl, ap, ◌∙◌, ⊎_elim, add_assoc, arith}
 use Rattle.std.proofs.lemmas.List.{drop-drop, length-take-le}
-use Rattle.std.proofs.lemmas.List.Sums.{sum_by-cons}
+use Rattle.std.proofs.lemmas.List.Splits.{length-slice_split}
 use Rattle.std.proofs.lemmas.Bool.{cases_Bool}
 use Rattle.std.proofs.lemmas.Bool.Decides.{nat_tests}
-use Rattle.text.specs.Bytes.{Bytes, piece, start, onto_first}
+use Rattle.text.specs.Bytes.{Bytes, piece, start}
 use Rattle.text.specs.Cuts.{span_to}
 use Rattle.text.specs.Rows.{fields}
 use Rattle.text.proofs.Pieces.{first_after, after_at}
 use Rattle.line.specs.Reads.{front, pace}
+use Rattle.line.proofs.Starts.{fields_split}
 
 -- the offset of field k, from 0, and its bytes, as a reader finds them
 unfoldable pub offset : ℕ → Bytes → ℕ
@@ -22,25 +23,9 @@ text k bs = front (drop (offset k bs) bs)
 abbrev pub separators_in : Bytes → ℕ
 separators_in bs = count_by (λ b. eqb b 59) bs
 
-length_onto_first : (b : ℕ) (fs : List (List ℕ)) → 0 < length fs → length (onto_first b fs) ≡ length fs
-length_onto_first b [] h = absurd (omega arith)
-length_onto_first b (f ∷ fs) h = refl
-
-separators_cons : (b : ℕ) (bs : List ℕ) → separators_in (b ∷ bs) ≡ cond (eqb b 59) 1 0 + separators_in bs
-separators_cons b bs = sum_by-cons (λ x. cond (eqb x 59) 1 0) b bs
-
 -- there is one field more than there are semicolons
 pub one_more : (bs : Bytes) → length (fields bs) ≡ separators_in bs + 1
-one_more [] = refl
-one_more (b ∷ bs) =
-    let h = one_more bs in
-    let e = separators_cons b bs in
-    let some : 0 < length (fields bs) = omega arith in
-    let l = length_onto_first b (fields bs) some in
-    ⊎_elim
-    (λ (y : eqb b 59 ≡ true). ap (λ t. length (cond t ([] ∷ fields bs) (onto_first b (fields bs)))) y ∙ sym (ap (λ n. n + 1) (e ∙ ap (λ t. cond t 1 0 + separators_in bs) y) ∙ omega arith))
-    (λ (n : eqb b 59 ≡ false). ap (λ t. length (cond t ([] ∷ fields bs) (onto_first b (fields bs)))) n ∙ l ∙ h ∙ sym (ap (λ n. n + 1) (e ∙ ap (λ t. cond t 1 0 + separators_in bs) n) ∙ omega arith))
-    (cases_Bool (eqb b 59))
+one_more bs = ap length (fields_split bs) ∙ length-slice_split (λ b. eqb b 59) bs
 
 offset_shift : (k : ℕ) (bs : List ℕ) → offset (suc k) bs ≡ pace bs + offset k (drop (pace bs) bs)
 unfolding offset

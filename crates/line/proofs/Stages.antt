@@ -4,8 +4,8 @@ use Rattle.text.specs.Bytes.{Bytes, piece, has_form}
 use Rattle.text.specs.Rows.{Row, row, first_fit, fields, Refused, refusal, settled, settled_by}
 use Rattle.line.specs.declared.faults.ReadFault.{ReadFault}
 use Rattle.line.specs.declared.faults.ReadFault.TheVariants.{Form}
-use Rattle.line.specs.declared.place.Place.{Place}
-use Rattle.line.specs.Reads.{front, pace, next_field, formed, read}
+use Rattle.line.specs.declared.reader.Reader.{Reader}
+use Rattle.line.specs.Reads.{front, pace, next_field, formed, read, Moved}
 use Rattle.line.proofs.Fields.{offset, text, offset_zero, offset_next, texts, starts}
 
 -- ---- One row
@@ -33,14 +33,14 @@ said_none part None f at x e = (refl, cc)
 said_none part (Some y) f at x e = absurd (let z : ◌≡◌ {A = ℕ} 0 1 = cc in omega arith)
 
 -- the reader has come to field k of bs, counted from 0, and these are the rows still to be tried
-pub record Reached {V : Type 0} (bs : Bytes) (all : List (Row Bytes)) (v : V) (p : Place) (line : Bytes) (k : ℕ) (rows : List (Row Bytes)) : Type 0 where
-  pub there : p.at ≡ offset k bs
-  pub count : p.field ≡ k
-  pub whole : line ≡ bs
+pub record Reached {V : Type 0} (bs : Bytes) (all : List (Row Bytes)) (v : V) (r : Reader) (k : ℕ) (rows : List (Row Bytes)) : Type 0 where
+  pub there : r.place.at ≡ offset k bs
+  pub count : r.place.field ≡ k
+  pub whole : r.line.now ≡ bs
   pub is : settled all bs v ≡ settled rows bs v
 
-pub begun : {V : Type 0} (bs : Bytes) (all : List (Row Bytes)) (v : V) (p : Place) (line : Bytes) → p ≡ record { at = 0; field = 0 } → line ≡ bs → Reached bs all v p line 0 all
-begun bs all v p line e l = record { there = ap (λ q. q.at) e ∙ sym (offset_zero bs); count = ap (λ q. q.field) e; whole = l; is = refl }
+pub begun : {V : Type 0} (bs : Bytes) (all : List (Row Bytes)) (v : V) (r : Reader) → r.place ≡ record { at = 0; field = 0 } → r.line.now ≡ bs → Reached bs all v r 0 all
+begun bs all v r e l = record { there = ap (λ q. q.at) e ∙ sym (offset_zero bs); count = ap (λ q. q.field) e; whole = l; is = refl }
 
 -- field k of bs has the form, and this is what was handed out of its value
 abbrev pub Says : {A X : Type 0} → (Bytes → ℕ → A → X) → (Bytes → Option A) → ℕ → Bytes → X → Type 0
@@ -49,29 +49,28 @@ Says {A} hand-out form k bs x = (y : A) × (form (piece (suc k) (fields bs)) ≡
 next_is : (f k : ℕ) → f ≡ k → k < 255 → next_field f ≡ suc k
 next_is f k e l = omega arith
 
-module _ {A X V : Type 0} (hand-out : Bytes → ℕ → A → X) (form : Bytes → Option A) (k : ℕ) {bs : Bytes} {all : List (Row Bytes)} {v : V} {n : ℕ} {rows : List (Row Bytes)} {p : Place} {line : Bytes}
-    (few : k < 255) (short : k < length (fields bs)) (h : Reached bs all v p line k (form_row n (suc k) form ∷ rows)) where
-  here : {r : Result X ReadFault} → r ≡ read hand-out form p line → r ≡ formed (hand-out (text k bs) (offset k bs)) (form (text k bs)) (suc k) (offset k bs)
+module _ {A X V : Type 0} (hand-out : Bytes → ℕ → A → X) (form : Bytes → Option A) (k : ℕ) {bs : Bytes} {all : List (Row Bytes)} {v : V} {n : ℕ} {rows : List (Row Bytes)} {was : Reader}
+    (few : k < 255) (short : k < length (fields bs)) (h : Reached bs all v was k (form_row n (suc k) form ∷ rows)) where
+  here : {r : Result X ReadFault} → r ≡ read hand-out form was.place was.line.now → r ≡ formed (hand-out (text k bs) (offset k bs)) (form (text k bs)) (suc k) (offset k bs)
   here e =
-      e ∙ (λ i. formed (hand-out (front (drop (h.there i) (h.whole i))) (h.there i)) (form (front (drop (h.there i) (h.whole i)))) (next_is p.field k h.count few i) (h.there i))
+      e ∙ (λ i. formed (hand-out (front (drop (h.there i) (h.whole i))) (h.there i)) (form (front (drop (h.there i) (h.whole i)))) (next_is was.place.field k h.count few i) (h.there i))
 
   -- the reader goes on with the next row, and has the value that the form gives
-  pub onward : {x : X} {q : Place} {line' : Bytes} → Ok x ≡ read hand-out form p line → q ≡ record { at = p.at + pace (drop p.at line); field = next_field p.field } → line' ≡ line
-      → Reached bs all v q line' (suc k) rows × Says hand-out form k bs x
-  onward {x} e f l =
+  pub onward : {Y : Type 0} {x : X} {is : Reader} {y : Y} → Ok x ≡ read hand-out form was.place was.line.now → Moved was is (Ok y) → Reached bs all v is (suc k) rows × Says hand-out form k bs x
+  onward {x = x} e m =
       let s = said_some (hand-out (text k bs) (offset k bs)) (form (text k bs)) (suc k) (offset k bs) x (here e) in
       let t = ap form (sym (texts k bs short)) ∙ s.1 in (
         record {
-          there = ap (λ t. t.at) f ∙ (λ i. h.there i + pace (drop (h.there i) (h.whole i))) ∙ sym (offset_next k bs);
-          count = ap (λ t. t.field) f ∙ next_is p.field k h.count few;
-          whole = l ∙ h.whole;
+          there = ap (λ t. t.at) m.place ∙ (λ i. h.there i + pace (drop (h.there i) (h.whole i))) ∙ sym (offset_next k bs);
+          count = ap (λ t. t.field) m.place ∙ next_is was.place.field k h.count few;
+          whole = m.line ∙ h.whole;
           is = h.is ∙ row_passes rows bs v (form_row n (suc k) form) (ap (λ o. not (has_form o)) t);
         },
         (s.0, t, s.2),
       )
 
   -- the first row that fits is this one
-  pub stopped : {x : ReadFault} → Err x ≡ read hand-out form p line → (x ≡ Form (suc k) (offset k bs)) × (settled all bs v ≡ Err (Refused n (suc k) (offset k bs)))
+  pub stopped : {x : ReadFault} → Err x ≡ read hand-out form was.place was.line.now → (x ≡ Form (suc k) (offset k bs)) × (settled all bs v ≡ Err (Refused n (suc k) (offset k bs)))
   stopped {x} e =
       let s = said_none (hand-out (text k bs) (offset k bs)) (form (text k bs)) (suc k) (offset k bs) x (here e) in
       let t = ap form (sym (texts k bs short)) ∙ s.0 in

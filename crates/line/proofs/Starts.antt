@@ -1,54 +1,56 @@
--- Where a field starts, found a field at a time.
-use Rattle.std.proofs.Common.{◌≡◌, ℕ, zero, suc, ◌+◌, ◌-◌, ◌<◌, ◌≤◌, true, false, cond, not, eqb, ltb, leb, List, [], ◌∷◌, length, drop, sym, refl, ap, ◌∙◌, ⊎_elim, arith, length-drop}
-use Rattle.std.proofs.lemmas.List.{drop-drop, length-take-le}
-use Rattle.std.proofs.lemmas.List.Sums.{prefix_len-le-length}
+-- Where a field starts: each field before it and its semicolon stand before it.
+use Rattle.std.proofs.Common.{◌≡◌, ℕ, zero, suc, ◌+◌, ◌-◌, ◌<◌, ◌≤◌, true, false, cond, eqb, List, [], ◌∷◌, length, take, sum_by, sym, refl, ap, ◌∙◌, ⊎_elim, arith}
+use Rattle.std.specs.List.{slice_split, onto_first}
+use Rattle.std.proofs.lemmas.List.Sums.{sum_by-cons}
 use Rattle.std.proofs.lemmas.Bool.{cases_Bool}
-use Rattle.std.proofs.lemmas.Bool.Decides.{nat_tests}
 use Rattle.text.specs.Bytes.{Bytes, start}
-use Rattle.text.specs.Cuts.{span_to, front_to}
+use Rattle.text.specs.Bytes as text
 use Rattle.text.specs.Rows.{fields}
-use Rattle.text.proofs.Pieces.{piece_and_more, piece_alone}
 
--- how far from offset `at` the field stands that is number `left` from there; past the end nothing stands
-abbrev pub start_from : ℕ → ℕ → Bytes → ℕ
-start_from left at bs = cond (leb at (length bs)) (start left (fields (drop at bs))) 0
+-- a field and its semicolon
+abbrev pub bytes_taken : Bytes → ℕ
+bytes_taken t = length t + 1
 
-start_none : (n : ℕ) → start n [] ≡ 0
-start_none zero = refl
-start_none (suc zero) = refl
-start_none (suc (suc n)) = refl
+same_onto_first : (b : ℕ) (ts : List Bytes) → text.onto_first b ts ≡ onto_first b ts
+same_onto_first b [] = refl
+same_onto_first b (t ∷ ts) = refl
 
-start_cons : (n : ℕ) (t : Bytes) (ts : List Bytes) → 1 < n → start n (t ∷ ts) ≡ length t + 1 + start (n - 1) ts
-start_cons zero t ts h = absurd (omega arith)
-start_cons (suc zero) t ts h = absurd (omega arith)
-start_cons (suc (suc n)) t ts h = let m : suc n ≡ suc (suc n) - 1 = omega arith in ap (λ m. length t + 1 + start m ts) m
+pub fields_split : (bs : Bytes) → fields bs ≡ slice_split (λ b. eqb b 59) bs
+fields_split [] = refl
+fields_split (b ∷ bs) = λ i. cond (eqb b 59) ([] ∷ fields_split bs i) (same_onto_first b (fields_split bs i) i)
 
-over : (n at : ℕ) (bs : Bytes) → length bs < at → start_from n at bs ≡ 0
-over n at bs h = let t : leb at (length bs) ≡ false = grind (arith, nat_tests) in ap (λ t. cond t (start n (fields (drop at bs))) 0) t
+-- ---- The start is a sum
 
--- one field further
-pub further : (n at s : ℕ) (bs : Bytes) → 1 < n → at ≤ length bs → s ≡ span_to 59 (drop at bs) → at + start_from n at bs ≡ (at + (s + 1)) + start_from (n - 1) (at + (s + 1)) bs
-further n at s bs h l e =
-    let rest = drop at bs in
-    let long = length-drop at bs in
-    let within : leb at (length bs) ≡ true = grind (arith, nat_tests) in
-    let few = prefix_len-le-length (λ b. not (eqb b 59)) rest in
-    let front : length (front_to 59 rest) ≡ s = length-take-le (span_to 59 rest) rest few ∙ sym e in
-    let here : start_from n at bs ≡ start n (fields rest) = ap (λ t. cond t (start n (fields rest)) 0) within in
+start_suc : (n : ℕ) (ts : List Bytes) → start (suc n) ts ≡ sum_by bytes_taken (take n ts)
+start_suc zero ts = refl
+start_suc (suc n) [] = refl
+start_suc (suc n) (t ∷ ts) = ap (λ s. length t + 1 + s) (start_suc n ts) ∙ sym (sum_by-cons bytes_taken t (take n ts))
+
+pub start_sum : (f : ℕ) (ts : List Bytes) → start f ts ≡ sum_by bytes_taken (take (f - 1) ts)
+start_sum zero ts = let m : 0 ≡ zero - 1 = omega arith in ap (λ m. sum_by bytes_taken (take m ts)) m
+start_sum (suc n) ts = let m : n ≡ suc n - 1 = omega arith in start_suc n ts ∙ ap (λ m. sum_by bytes_taken (take m ts)) m
+
+-- ---- The sum is within the text
+
+take_le : (n : ℕ) (ts : List Bytes) → sum_by bytes_taken (take n ts) ≤ sum_by bytes_taken ts
+take_le zero ts = omega arith
+take_le (suc n) [] = omega arith
+take_le (suc n) (t ∷ ts) = omega (arith, take_le n ts, sum_by-cons bytes_taken t (take n ts), sum_by-cons bytes_taken t ts)
+
+taken_onto_first : (b : ℕ) (ts : List Bytes) → 0 < sum_by bytes_taken ts → sum_by bytes_taken (text.onto_first b ts) ≡ sum_by bytes_taken ts + 1
+taken_onto_first b [] h = absurd (omega (arith, h))
+taken_onto_first b (t ∷ ts) h = omega (arith, sum_by-cons bytes_taken (b ∷ t) ts, sum_by-cons bytes_taken t ts)
+
+taken_all : (bs : Bytes) → sum_by bytes_taken (fields bs) ≡ length bs + 1
+taken_all [] = refl
+taken_all (b ∷ bs) =
+    let h = taken_all bs in
+    let more = taken_onto_first b (fields bs) (omega (arith, h)) in
+    let one = sum_by-cons bytes_taken [] (fields bs) in
     ⊎_elim
-    (λ (y : ltb s (length rest) ≡ true).
-    let more : s < length rest = grind (arith, nat_tests) in
-    let next : drop (span_to 59 rest + 1) rest ≡ drop (at + (s + 1)) bs = ap (λ m. drop (m + 1) rest) (sym e) ∙ drop-drop (s + 1) at bs in
-    let there : leb (at + (s + 1)) (length bs) ≡ true = grind (arith, nat_tests) in
-    let step : start n (fields rest) ≡ s + 1 + start (n - 1) (fields (drop (at + (s + 1)) bs)) =
-    ap (start n) (piece_and_more 59 rest (omega arith)) ∙ start_cons n _ _ h ∙ (λ i. front i + 1 + start (n - 1) (fields (next i))) in
-    let last : start_from (n - 1) (at + (s + 1)) bs ≡ start (n - 1) (fields (drop (at + (s + 1)) bs)) =
-    ap (λ t. cond t (start (n - 1) (fields (drop (at + (s + 1)) bs))) 0) there in
-    omega (arith, here, step, last))
-    (λ (o : ltb s (length rest) ≡ false).
-    let end : length rest ≤ s = grind (arith, nat_tests) in
-    let step : start n (fields rest) ≡ s + 1 + 0 =
-    ap (start n) (piece_alone 59 rest (omega arith)) ∙ start_cons n _ _ h ∙ (λ i. front i + 1 + start_none (n - 1) i) in
-    let last = over (n - 1) (at + (s + 1)) bs (omega arith) in
-    omega (arith, here, step, last))
-    (cases_Bool (ltb s (length rest)))
+    (λ (y : eqb b 59 ≡ true). ap (λ t. sum_by bytes_taken (cond t ([] ∷ fields bs) (text.onto_first b (fields bs)))) y ∙ omega (arith, one, h))
+    (λ (n : eqb b 59 ≡ false). ap (λ t. sum_by bytes_taken (cond t ([] ∷ fields bs) (text.onto_first b (fields bs)))) n ∙ omega (arith, more, h))
+    (cases_Bool (eqb b 59))
+
+pub taken_within : (n : ℕ) (bs : Bytes) → sum_by bytes_taken (take n (fields bs)) ≤ length bs + 1
+taken_within n bs = omega (arith, take_le n (fields bs), taken_all bs)

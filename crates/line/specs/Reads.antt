@@ -1,5 +1,5 @@
 -- What a reader hands out, and where it stands then.
-use Rattle.std.specs.Prelude.{ℕ, ◌+◌, min, List, [], ◌∷◌, drop, ℤ, Some, None, Ok, Err, Option, Result}
+use Rattle.std.specs.Prelude.{ℕ, ◌+◌, min, List, [], ◌∷◌, drop, ℤ, ◌≡◌, Some, None, Ok, Err, Option, Result}
 use Rattle.text.specs.Bytes.{Bytes}
 use Rattle.text.specs.Cuts.{front_to, pace_to}
 use Rattle.text.specs.Listings.{listing}
@@ -8,6 +8,7 @@ use Rattle.line.specs.declared.faults.ReadFault.TheVariants.{Form}
 use Rattle.line.specs.declared.parts.Part.{Part}
 use Rattle.line.specs.declared.parts.Part.TheVariants as part
 use Rattle.line.specs.declared.place.Place.{Place}
+use Rattle.line.specs.declared.reader.Reader.{Reader}
 
 -- ---- Parts
 
@@ -103,3 +104,8 @@ read hand-out form p bs =
 abbrev pub past : {X : Type 0} → Place → Bytes → Result X ReadFault → Place
 past p bs (Ok x) = record { at = p.at + pace (drop p.at bs); field = next_field p.field }
 past p bs (Err e) = p
+
+-- what a reading makes of a reader: it stands past the field, or still before it, in the same line
+pub record Moved {X : Type 0} (was is : Reader) (r : Result X ReadFault) : Type 0 where
+  pub place : is.place ≡ past was.place was.line.now r
+  pub line : is.line.now ≡ was.line.now

@@ -3,8 +3,6 @@ ghost use Rattle.std.specs.Prelude.{◌≡◌, length};
 ghost use Rattle.text.specs.Bytes.{start};
 ghost use Rattle.text.specs.Rows.{fields};
 
-use text::span_to;
-
 // How many fields there are: one more than semicolons.
 pub fn field_count(text: &[u8]) -> usize
     ensures { result ≡ length (fields text.now) }
@@ -16,12 +14,8 @@ pub fn field_count(text: &[u8]) -> usize
 pub fn field_offset(text: &[u8], field: u8) -> usize
     ensures { result ≡ start field (fields text.now) }
 {
-    let mut at = 0;
-    for _ in 1..field {
-        if at > text.len() {
-            break;
-        }
-        at += span_to(&text[at..], b';') + 1;
-    }
-    at
+    text.split(|b| *b == b';')
+        .take(usize::from(field).saturating_sub(1))
+        .map(|part| part.len() + 1)
+        .sum()
 }

@@ -47,7 +47,7 @@ impl<'a> Part<'a> {
         }
     }
 
-    // The number that it writes, or 0 where it is none. 0, and not an Option: its contract has always said so.
+    // The number that it writes, or 0 where it is none. 0, and not an Option: 0 is what its promise says for no number.
     pub fn number(&self) -> u64
         ensures { result ≡ number_of (seen self.now) }
     {

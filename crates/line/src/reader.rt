@@ -1,10 +1,9 @@
 // Hands out the fields of a line in order, and copies nothing.
 // A reading that fails leaves the reader at the field's first byte.
 ghost use Rattle.std.specs.Prelude.{◌≡◌, ℕ, ◌+◌, List, drop, Option};
-ghost use Rattle.std.specs.Fn.{FnOnceReturnsAt};
 ghost use Rattle.text.specs.Forms.{kind_form, id_form, venue_form, code_form, side_form, action_form, time_form, quantity_form, price_form, names_form};
 ghost use Rattle.line.specs.declared.faults.ReadFault.TheVariants.{Form};
-ghost use Rattle.line.specs.Reads.{front, pace, next_field, formed, read, past, seen, seen_in, as_read, as_word, as_number, as_price, as_names};
+ghost use Rattle.line.specs.Reads.{front, pace, next_field, formed, read, Moved, seen, seen_in, as_read, as_word, as_number, as_price, as_names};
 
 use crate::faults::ReadFault;
 use crate::parts::Part;
@@ -110,14 +109,15 @@ impl<'a> Reader<'a> {
         }
     }
 
-    // The field at the place, by what `said` answers of its bytes: where it answers nothing, the field lacks its form.
-    fn field<T, F: FnOnce(&'a [u8]) -> Option<T>>(&mut self, said: F) -> Result<T, ReadFault>
+    // The field at the place, by what `said` answers of its bytes and their offset: where it answers nothing, the field
+    // lacks its form.
+    fn field<T, F: FnOnce(&'a [u8], usize) -> Option<T>>(&mut self, said: F) -> Result<T, ReadFault>
         requires { F.IsAlwaysCallable said }
-        ensures told { (answer : Option T)
-            × FnOnceReturnsAt F.FnOnce said (front (drop self.old.place.at self.old.line.now)) answer
+        ensures told { (text : _) × (answer : Option T)
+            × (text.now ≡ front (drop self.old.place.at self.old.line.now))
+            × F.post said text self.old.place.at answer
             × (result ≡ formed (λ v. v) answer (next_field self.old.place.field) self.old.place.at) }
-        ensures place { self.new.place ≡ past self.old.place self.old.line.now result }
-        ensures line { self.new.line.now ≡ self.old.line.now }
+        ensures moved { Moved self.old self.new result }
     {
         let start = self.place;
         let mut guard = Rewind {
@@ -125,7 +125,7 @@ impl<'a> Reader<'a> {
             back: Some(start),
         };
         let text = take_field(self.line, guard.place);
-        let value = said(text).ok_or(lacks_form(start))?;
+        let value = said(text, start.at).ok_or(lacks_form(start))?;
         guard.back = None;
         Ok(value)
     }
@@ -133,51 +133,42 @@ impl<'a> Reader<'a> {
     // The value that a field writes by its form.
     pub fn value<F: FieldForm>(&mut self) -> Result<F, ReadFault>
         ensures told { result ≡ read as_read F.FieldForm.form self.old.place self.old.line.now }
-        ensures place { self.new.place ≡ past self.old.place self.old.line.now result }
-        ensures line { self.new.line.now ≡ self.old.line.now }
+        ensures moved { Moved self.old self.new result }
     {
         // the path `F::said_by` in place of the closure gets no proof
-        self.field(|text| F::said_by(text))
+        self.field(|text, _| F::said_by(text))
     }
 
     // From `least` to `most` id bytes.
     pub fn id(&mut self, least: usize, most: usize) -> Result<Part<'a>, ReadFault>
         ensures told { seen_in result ≡ read as_word (id_form least most) self.old.place self.old.line.now }
-        ensures place { self.new.place ≡ past self.old.place self.old.line.now result }
-        ensures line { self.new.line.now ≡ self.old.line.now }
+        ensures moved { Moved self.old self.new result }
     {
-        let at = self.place.at;
-        self.field(|text| is_id(text, least, most).then(|| word(text, at)))
+        self.field(|text, at| is_id(text, least, most).then(|| word(text, at)))
     }
 
     // Four capital letters or digits.
     pub fn venue(&mut self) -> Result<Part<'a>, ReadFault>
         ensures told { seen_in result ≡ read as_word venue_form self.old.place self.old.line.now }
-        ensures place { self.new.place ≡ past self.old.place self.old.line.now result }
-        ensures line { self.new.line.now ≡ self.old.line.now }
+        ensures moved { Moved self.old self.new result }
     {
-        let at = self.place.at;
-        self.field(|text| is_venue(text).then(|| word(text, at)))
+        self.field(|text, at| is_venue(text).then(|| word(text, at)))
     }
 
     // An ACER code.
     pub fn code(&mut self) -> Result<Part<'a>, ReadFault>
         ensures told { seen_in result ≡ read as_word code_form self.old.place self.old.line.now }
-        ensures place { self.new.place ≡ past self.old.place self.old.line.now result }
-        ensures line { self.new.line.now ≡ self.old.line.now }
+        ensures moved { Moved self.old self.new result }
     {
-        let at = self.place.at;
-        self.field(|text| is_code(text).then(|| word(text, at)))
+        self.field(|text, at| is_code(text).then(|| word(text, at)))
     }
 
     // A time in seconds.
     pub fn time(&mut self) -> Result<Part<'a>, ReadFault>
         ensures told { seen_in result ≡ read as_number time_form self.old.place self.old.line.now }
-        ensures place { self.new.place ≡ past self.old.place self.old.line.now result }
-        ensures line { self.new.line.now ≡ self.old.line.now }
+        ensures moved { Moved self.old self.new result }
     {
-        let at = self.place.at;
-        self.field(|text| {
+        self.field(|text, at| {
             let value = time_of(text)? as u64;
             Some(Part::Number { value, text, at })
         })
@@ -186,11 +177,9 @@ impl<'a> Reader<'a> {
     // A quantity in hundred-thousandths.
     pub fn quantity(&mut self) -> Result<Part<'a>, ReadFault>
         ensures told { seen_in result ≡ read as_number quantity_form self.old.place self.old.line.now }
-        ensures place { self.new.place ≡ past self.old.place self.old.line.now result }
-        ensures line { self.new.line.now ≡ self.old.line.now }
+        ensures moved { Moved self.old self.new result }
     {
-        let at = self.place.at;
-        self.field(|text| {
+        self.field(|text, at| {
             let value = quantity_of(text)?;
             Some(Part::Number { value, text, at })
         })
@@ -199,21 +188,17 @@ impl<'a> Reader<'a> {
     // A price in hundred-thousandths, or a blank.
     pub fn price(&mut self) -> Result<Part<'a>, ReadFault>
         ensures told { seen_in result ≡ read as_price price_form self.old.place self.old.line.now }
-        ensures place { self.new.place ≡ past self.old.place self.old.line.now result }
-        ensures line { self.new.line.now ≡ self.old.line.now }
+        ensures moved { Moved self.old self.new result }
     {
-        let at = self.place.at;
-        self.field(|text| Some(signed(price_of(text)?, text, at)))
+        self.field(|text, at| Some(signed(price_of(text)?, text, at)))
     }
 
     // A list of names.
     pub fn names(&mut self) -> Result<Part<'a>, ReadFault>
         ensures told { seen_in result ≡ read as_names names_form self.old.place self.old.line.now }
-        ensures place { self.new.place ≡ past self.old.place self.old.line.now result }
-        ensures line { self.new.line.now ≡ self.old.line.now }
+        ensures moved { Moved self.old self.new result }
     {
-        let at = self.place.at;
-        self.field(|text| {
+        self.field(|text, at| {
             let names = Names::of(text)?;
             Some(Part::Names { names, text, at })
         })

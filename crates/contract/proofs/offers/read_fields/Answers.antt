@@ -3,7 +3,7 @@ use Rattle.std.proofs.Common.{ℕ, ◌≤◌, [], length, drop, Ok, sym, ap, ◌
 use Rattle.text.specs.Bytes.{Bytes, piece}
 use Rattle.text.specs.Forms.{id_form, names_form}
 use Rattle.text.specs.Rows.{fields, form_rows}
-use Rattle.line.specs.declared.place.Place.{Place}
+use Rattle.line.specs.declared.reader.Reader.{Reader}
 use Rattle.line.specs.Reads.{seen, bytes_of, names_of, as_read, as_word, as_names}
 use Rattle.line.proofs.Stages.{Reached, Says, begun, onward, stopped}
 use Rattle.line.proofs.Reports.{read_value, word_bytes}
@@ -15,31 +15,31 @@ use Rattle.contract.proofs.Readings.{stops, id_short, style_value, restyled}
 use Rattle.contract.proofs.offers.read_fields.Goals as goal
 use Rattle.contract.proofs.offers.read_fields.Goals.{After-new-reader, In_ok-id, In_ok-kind, In_ok-style, In_ok-names}
 
-abbrev At : Bytes → ℕ → Place → Bytes → Type 0
-At bs k p line = Reached bs (form_rows (λ f. 51) 1 contract_forms) (offered bs) p line k (drop k (form_rows (λ f. 51) 1 contract_forms))
+abbrev At : Bytes → ℕ → Reader → Type 0
+At bs k r = Reached bs (form_rows (λ f. 51) 1 contract_forms) (offered bs) r k (drop k (form_rows (λ f. 51) 1 contract_forms))
 
-at_id : (c : goal.After-new-reader) → At c.args.text.now 0 c.new-reader.result.place c.new-reader.result.line.now
-at_id c = begun _ _ _ _ _ c.new-reader.ensures.place c.new-reader.ensures.line
+at_id : (c : goal.After-new-reader) → At c.args.text.now 0 c.new-reader.result
+at_id c = begun _ _ _ _ c.new-reader.ensures.place c.new-reader.ensures.line
 
-past_id : (c : goal.In_ok-id) → At c.args.text.now 1 c.id.new.self.place c.id.new.self.line.now × Says as_word (id_form 1 32) 0 c.args.text.now (seen c.in_ok-id.id)
+past_id : (c : goal.In_ok-id) → At c.args.text.now 1 c.id.new.self × Says as_word (id_form 1 32) 0 c.args.text.now (seen c.in_ok-id.id)
 past_id c =
     let p = c.in_ok-id.ensures in
-    onward as_word (id_form 1 32) 0 (omega arith) (omega (arith, c.requires)) (at_id (goal.at.In_ok-id c).After-new-reader) p.told p.place p.line
+    onward as_word (id_form 1 32) 0 (omega arith) (omega (arith, c.requires)) (at_id (goal.at.In_ok-id c).After-new-reader) p.told p.moved
 
-past_kind : (c : goal.In_ok-kind) → At c.args.text.now 2 c.value.new.self.place c.value.new.self.line.now × Says as_read type_form 1 c.args.text.now c.in_ok-kind.kind
+past_kind : (c : goal.In_ok-kind) → At c.args.text.now 2 c.value.new.self × Says as_read type_form 1 c.args.text.now c.in_ok-kind.kind
 past_kind c =
     let p = c.in_ok-kind.ensures in
-    onward as_read type_form 1 (omega arith) (omega (arith, c.requires)) (past_id (goal.at.In_ok-kind c).In_ok-id).0 p.told p.place p.line
+    onward as_read type_form 1 (omega arith) (omega (arith, c.requires)) (past_id (goal.at.In_ok-kind c).In_ok-id).0 p.told p.moved
 
-past_style : (c : goal.In_ok-style) → At c.args.text.now 3 c.value-2.new.self.place c.value-2.new.self.line.now × Says as_read style_said 2 c.args.text.now c.in_ok-style.style
+past_style : (c : goal.In_ok-style) → At c.args.text.now 3 c.value-2.new.self × Says as_read style_said 2 c.args.text.now c.in_ok-style.style
 past_style c =
     let p = c.in_ok-style.ensures in
-    onward as_read style_said 2 (omega arith) (omega (arith, c.requires)) (restyled (past_kind (goal.at.In_ok-style c).In_ok-kind).0) p.told p.place p.line
+    onward as_read style_said 2 (omega arith) (omega (arith, c.requires)) (restyled (past_kind (goal.at.In_ok-style c).In_ok-kind).0) p.told p.moved
 
-past_names : (c : goal.In_ok-names) → At c.args.text.now 4 c.names.new.self.place c.names.new.self.line.now × Says as_names names_form 3 c.args.text.now (seen c.in_ok-names.names)
+past_names : (c : goal.In_ok-names) → At c.args.text.now 4 c.names.new.self × Says as_names names_form 3 c.args.text.now (seen c.in_ok-names.names)
 past_names c =
     let p = c.in_ok-names.ensures in
-    onward as_names names_form 3 (omega arith) (omega (arith, c.requires)) (past_style (goal.at.In_ok-names c).In_ok-style).0 p.told p.place p.line
+    onward as_names names_form 3 (omega arith) (omega (arith, c.requires)) (past_style (goal.at.In_ok-names c).In_ok-style).0 p.told p.moved
 
 pub returns-in_err-id : goal.returns-in_err-id
 returns-in_err-id c =

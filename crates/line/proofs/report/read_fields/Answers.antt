@@ -6,7 +6,7 @@ use Rattle.text.specs.declared.words.Action.TheVariants.{New}
 use Rattle.text.specs.Bytes.{Bytes, piece}
 use Rattle.text.specs.Forms.{kind_form, id_form, venue_form, code_form, side_form, action_form, time_form, quantity_form, price_form, names_form}
 use Rattle.text.specs.Rows.{fields}
-use Rattle.line.specs.declared.place.Place.{Place}
+use Rattle.line.specs.declared.reader.Reader.{Reader}
 use Rattle.line.specs.Lines.{field_rows, report}
 use Rattle.line.specs.Reads.{seen, bytes_of, number_of, signed_of, names_of, as_read, as_word, as_number, as_price, as_names}
 use Rattle.line.proofs.Stages.{Reached, Says, begun, onward, stopped}
@@ -14,66 +14,66 @@ use Rattle.line.proofs.Reports.{stops, time_small, read_value, word_bytes, price
 use Rattle.line.proofs.report.read_fields.Goals as goal
 use Rattle.line.proofs.report.read_fields.Goals.{After-new-reader, In_ok-kind, In_ok-id, In_ok-contract, In_ok-venue, In_ok-participant, In_ok-side, In_ok-action, In_ok-time, In_ok-quantity, In_ok-price, In_ok-names}
 
-abbrev At : Bytes → ℕ → Place → Bytes → Type 0
-At bs k p line = Reached bs field_rows (report (fields bs)) p line k (drop k field_rows)
+abbrev At : Bytes → ℕ → Reader → Type 0
+At bs k r = Reached bs field_rows (report (fields bs)) r k (drop k field_rows)
 
-at_kind : (c : goal.After-new-reader) → At c.args.line.now 0 c.new-reader.result.place c.new-reader.result.line.now
-at_kind c = begun _ _ _ _ _ c.new-reader.ensures.place c.new-reader.ensures.line
+at_kind : (c : goal.After-new-reader) → At c.args.line.now 0 c.new-reader.result
+at_kind c = begun _ _ _ _ c.new-reader.ensures.place c.new-reader.ensures.line
 
-past_kind : (c : goal.In_ok-kind) → At c.args.line.now 1 c.value.new.self.place c.value.new.self.line.now × Says as_read kind_form 0 c.args.line.now c.in_ok-kind.kind
+past_kind : (c : goal.In_ok-kind) → At c.args.line.now 1 c.value.new.self × Says as_read kind_form 0 c.args.line.now c.in_ok-kind.kind
 past_kind c =
     let p = c.in_ok-kind.ensures in
-    onward as_read kind_form 0 (omega arith) (omega (arith, c.requires)) (at_kind (goal.at.In_ok-kind c).After-new-reader) p.told p.place p.line
+    onward as_read kind_form 0 (omega arith) (omega (arith, c.requires)) (at_kind (goal.at.In_ok-kind c).After-new-reader) p.told p.moved
 
-past_id : (c : goal.In_ok-id) → At c.args.line.now 2 c.id.new.self.place c.id.new.self.line.now × Says as_word (id_form 1 52) 1 c.args.line.now (seen c.in_ok-id.id)
+past_id : (c : goal.In_ok-id) → At c.args.line.now 2 c.id.new.self × Says as_word (id_form 1 52) 1 c.args.line.now (seen c.in_ok-id.id)
 past_id c =
     let p = c.in_ok-id.ensures in
-    onward as_word (id_form 1 52) 1 (omega arith) (omega (arith, c.requires)) (past_kind (goal.at.In_ok-id c).In_ok-kind).0 p.told p.place p.line
+    onward as_word (id_form 1 52) 1 (omega arith) (omega (arith, c.requires)) (past_kind (goal.at.In_ok-id c).In_ok-kind).0 p.told p.moved
 
-past_contract : (c : goal.In_ok-contract) → At c.args.line.now 3 c.id-2.new.self.place c.id-2.new.self.line.now × Says as_word (id_form 0 32) 2 c.args.line.now (seen c.in_ok-contract.contract)
+past_contract : (c : goal.In_ok-contract) → At c.args.line.now 3 c.id-2.new.self × Says as_word (id_form 0 32) 2 c.args.line.now (seen c.in_ok-contract.contract)
 past_contract c =
     let p = c.in_ok-contract.ensures in
-    onward as_word (id_form 0 32) 2 (omega arith) (omega (arith, c.requires)) (past_id (goal.at.In_ok-contract c).In_ok-id).0 p.told p.place p.line
+    onward as_word (id_form 0 32) 2 (omega arith) (omega (arith, c.requires)) (past_id (goal.at.In_ok-contract c).In_ok-id).0 p.told p.moved
 
-past_venue : (c : goal.In_ok-venue) → At c.args.line.now 4 c.venue.new.self.place c.venue.new.self.line.now × Says as_word venue_form 3 c.args.line.now (seen c.in_ok-venue.venue)
+past_venue : (c : goal.In_ok-venue) → At c.args.line.now 4 c.venue.new.self × Says as_word venue_form 3 c.args.line.now (seen c.in_ok-venue.venue)
 past_venue c =
     let p = c.in_ok-venue.ensures in
-    onward as_word venue_form 3 (omega arith) (omega (arith, c.requires)) (past_contract (goal.at.In_ok-venue c).In_ok-contract).0 p.told p.place p.line
+    onward as_word venue_form 3 (omega arith) (omega (arith, c.requires)) (past_contract (goal.at.In_ok-venue c).In_ok-contract).0 p.told p.moved
 
-past_participant : (c : goal.In_ok-participant) → At c.args.line.now 5 c.code.new.self.place c.code.new.self.line.now × Says as_word code_form 4 c.args.line.now (seen c.in_ok-participant.participant)
+past_participant : (c : goal.In_ok-participant) → At c.args.line.now 5 c.code.new.self × Says as_word code_form 4 c.args.line.now (seen c.in_ok-participant.participant)
 past_participant c =
     let p = c.in_ok-participant.ensures in
-    onward as_word code_form 4 (omega arith) (omega (arith, c.requires)) (past_venue (goal.at.In_ok-participant c).In_ok-venue).0 p.told p.place p.line
+    onward as_word code_form 4 (omega arith) (omega (arith, c.requires)) (past_venue (goal.at.In_ok-participant c).In_ok-venue).0 p.told p.moved
 
-past_side : (c : goal.In_ok-side) → At c.args.line.now 6 c.value-2.new.self.place c.value-2.new.self.line.now × Says as_read side_form 5 c.args.line.now c.in_ok-side.side
+past_side : (c : goal.In_ok-side) → At c.args.line.now 6 c.value-2.new.self × Says as_read side_form 5 c.args.line.now c.in_ok-side.side
 past_side c =
     let p = c.in_ok-side.ensures in
-    onward as_read side_form 5 (omega arith) (omega (arith, c.requires)) (past_participant (goal.at.In_ok-side c).In_ok-participant).0 p.told p.place p.line
+    onward as_read side_form 5 (omega arith) (omega (arith, c.requires)) (past_participant (goal.at.In_ok-side c).In_ok-participant).0 p.told p.moved
 
-past_action : (c : goal.In_ok-action) → At c.args.line.now 7 c.value-3.new.self.place c.value-3.new.self.line.now × Says as_read action_form 6 c.args.line.now c.in_ok-action.action
+past_action : (c : goal.In_ok-action) → At c.args.line.now 7 c.value-3.new.self × Says as_read action_form 6 c.args.line.now c.in_ok-action.action
 past_action c =
     let p = c.in_ok-action.ensures in
-    onward as_read action_form 6 (omega arith) (omega (arith, c.requires)) (past_side (goal.at.In_ok-action c).In_ok-side).0 p.told p.place p.line
+    onward as_read action_form 6 (omega arith) (omega (arith, c.requires)) (past_side (goal.at.In_ok-action c).In_ok-side).0 p.told p.moved
 
-past_time : (c : goal.In_ok-time) → At c.args.line.now 8 c.time.new.self.place c.time.new.self.line.now × Says as_number time_form 7 c.args.line.now (seen c.in_ok-time.time)
+past_time : (c : goal.In_ok-time) → At c.args.line.now 8 c.time.new.self × Says as_number time_form 7 c.args.line.now (seen c.in_ok-time.time)
 past_time c =
     let p = c.in_ok-time.ensures in
-    onward as_number time_form 7 (omega arith) (omega (arith, c.requires)) (past_action (goal.at.In_ok-time c).In_ok-action).0 p.told p.place p.line
+    onward as_number time_form 7 (omega arith) (omega (arith, c.requires)) (past_action (goal.at.In_ok-time c).In_ok-action).0 p.told p.moved
 
-past_quantity : (c : goal.In_ok-quantity) → At c.args.line.now 9 c.quantity.new.self.place c.quantity.new.self.line.now × Says as_number quantity_form 8 c.args.line.now (seen c.in_ok-quantity.quantity)
+past_quantity : (c : goal.In_ok-quantity) → At c.args.line.now 9 c.quantity.new.self × Says as_number quantity_form 8 c.args.line.now (seen c.in_ok-quantity.quantity)
 past_quantity c =
     let p = c.in_ok-quantity.ensures in
-    onward as_number quantity_form 8 (omega arith) (omega (arith, c.requires)) (past_time (goal.at.In_ok-quantity c).In_ok-time).0 p.told p.place p.line
+    onward as_number quantity_form 8 (omega arith) (omega (arith, c.requires)) (past_time (goal.at.In_ok-quantity c).In_ok-time).0 p.told p.moved
 
-past_price : (c : goal.In_ok-price) → At c.args.line.now 10 c.price.new.self.place c.price.new.self.line.now × Says as_price price_form 9 c.args.line.now (seen c.in_ok-price.price)
+past_price : (c : goal.In_ok-price) → At c.args.line.now 10 c.price.new.self × Says as_price price_form 9 c.args.line.now (seen c.in_ok-price.price)
 past_price c =
     let p = c.in_ok-price.ensures in
-    onward as_price price_form 9 (omega arith) (omega (arith, c.requires)) (past_quantity (goal.at.In_ok-price c).In_ok-quantity).0 p.told p.place p.line
+    onward as_price price_form 9 (omega arith) (omega (arith, c.requires)) (past_quantity (goal.at.In_ok-price c).In_ok-quantity).0 p.told p.moved
 
-past_names : (c : goal.In_ok-names) → At c.args.line.now 11 c.names.new.self.place c.names.new.self.line.now × Says as_names names_form 10 c.args.line.now (seen c.in_ok-names.names)
+past_names : (c : goal.In_ok-names) → At c.args.line.now 11 c.names.new.self × Says as_names names_form 10 c.args.line.now (seen c.in_ok-names.names)
 past_names c =
     let p = c.in_ok-names.ensures in
-    onward as_names names_form 10 (omega arith) (omega (arith, c.requires)) (past_price (goal.at.In_ok-names c).In_ok-price).0 p.told p.place p.line
+    onward as_names names_form 10 (omega arith) (omega (arith, c.requires)) (past_price (goal.at.In_ok-names c).In_ok-price).0 p.told p.moved
 
 pub returns-in_err-kind : goal.returns-in_err-kind
 returns-in_err-kind c =
