@@ -3,10 +3,8 @@ ghost use Rattle.std.specs.Prelude.{ℕ, ◌<◌, pos, slice_index_or};
 ghost use Rattle.calls.specs.Positions.{TellsPosition};
 
 use crate::checker::Checker;
-use life::Store;
+use life::{CONTRACTS, Store};
 use measure::{Both, Measure, Sheet};
-
-const CELLS: usize = 64;
 
 impl<'s, S: Store, B: Measure> Checker<'s, S, Both<Sheet, B>> {
     // The position of a contract, in hundred-thousandths. Over a store with room for at most 65,535 lives it is the true sum over the open trades of
@@ -18,11 +16,11 @@ impl<'s, S: Store, B: Measure> Checker<'s, S, Both<Sheet, B>> {
     }
 
     // The positions of all contracts, by their numbers, 0 for trades outside a market place.
-    pub fn positions(&self) -> [i64; 64]
+    pub fn positions(&self) -> [i64; CONTRACTS]
         ensures { (n : ℕ) → n < 64 → TellsPosition ⟦<Both<Sheet, B> as Measure>⟧ self.now n (slice_index_or result n (pos 0)) }
     {
         // By a loop: from `array::from_fn` it could not be told that each call asks this checker.
-        let mut sums = [0; CELLS];
+        let mut sums = [0; CONTRACTS];
         for (n, sum) in sums.iter_mut().enumerate() {
             *sum = self.position(n as u8);
         }

@@ -4,7 +4,7 @@ use Rattle.std.proofs.lemmas.Result.{err_from_is_err_and}
 use Rattle.text.specs.Bytes.{Bytes, value, then}
 use Rattle.text.specs.Forms.{time_form, digits_form, at_most}
 use Rattle.text.specs.Rows.{Refusal, Refused}
-use Rattle.text.proofs.Decimals.{at_most_small}
+use Rattle.std.proofs.lemmas.Bool.Decides.{nat_tests}
 use Rattle.line.specs.declared.faults.ReadFault.{ReadFault}
 use Rattle.line.specs.declared.faults.ReadFault.TheVariants.{Form}
 use Rattle.line.specs.declared.report.Report.{Report}
@@ -37,4 +37,4 @@ time_small t n e = go (digits_form 10 t) e
   where
     go : (o : Option ℕ) → then o (at_most 4_294_967_295) ≡ Some n → n ≤ 4_294_967_295
     go None e = absurd (let z : ◌≡◌ {A = ℕ} 0 1 = cc in omega arith)
-    go (Some m) e = at_most_small 4_294_967_295 m (Some n) (sym e)
+    go (Some m) e = grind (arith, nat_tests)
