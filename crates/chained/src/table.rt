@@ -1,7 +1,7 @@
 // A table of slots: which slot has a key, and how a pair comes into its chain and out of it.
-ghost use Rattle.std.specs.Prelude.{◌≡◌, ℕ, ◌+◌, ◌-◌, ◌<◌, ◌≤◌, true, ◌∷◌, length, None, Ok, ◌≢◌, nat_le, unwrap_or};
+ghost use Rattle.std.specs.Prelude.{◌≡◌, ℕ, ◌<◌, ◌≤◌, true, length, None, Ok, nat_le, unwrap_or};
 ghost use Rattle.life.specs.Pairs.{look, distinct};
-ghost use Rattle.chained.specs.Table.{room_of as room_in, Becomes, at, chain_of, pairs_of, re, Linked, Chains, Sound, Spot, Place, Found, Rewired, Paired, Kept, Whole, Spare, Emptied, Puts, Drops};
+ghost use Rattle.chained.specs.Table.{room_of as room_in, at, chain_of, pairs_of, re, Linked, Chains, Sound, Spot, Place, Found, Rewired, Paired, Kept, Whole, Emptied, Puts, Drops};
 
 use crate::slot::Slot;
 use life::{Key, Life, NoRoom};
@@ -19,8 +19,8 @@ fn chain(key: &Key, n: usize) -> usize
     1 + key.word as usize % (n - 1)
 }
 
-// The functions from here to `prepare` take slots, not a `Table`: they are called between the writes of `add` and `take_out`, where
-// its invariant does not hold.
+// The functions from here to `link` take slots, not a `Table`: they are called between the writes of `add` and `take_out`, where
+// its invariant does not hold, and `set_pair` in `put` too.
 
 // Sets the link at `p`, or the head of the chain `b` where `p` is None. In the contracts the number 0 stands for the head.
 fn set_link(slots: &mut [Slot], b: usize, p: Option<usize>, v: usize)
