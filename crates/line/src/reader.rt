@@ -135,10 +135,11 @@ impl<'a> Reader<'a> {
         ensures told { result ≡ read as_read F.FieldForm.form self.old.place self.old.line.now }
         ensures moved { Moved self.old self.new result }
     {
-        // the path `F::said_by` in place of the closure gets no proof
         self.field(|text, _| F::said_by(text))
     }
 
+    // Written out for `id`, `venue` and `code`: a method that takes the test needs a contract on a closure around it, and
+    // is longer than the three.
     // From `least` to `most` id bytes.
     pub fn id(&mut self, least: usize, most: usize) -> Result<Part<'a>, ReadFault>
         ensures told { seen_in result ≡ read as_word (id_form least most) self.old.place self.old.line.now }
