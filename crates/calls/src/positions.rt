@@ -19,7 +19,6 @@ impl<'s, S: Store, B: Measure> Checker<'s, S, Both<Sheet, B>> {
     pub fn positions(&self) -> [i64; CONTRACTS]
         ensures { (n : ℕ) → n < 64 → TellsPosition ⟦<Both<Sheet, B> as Measure>⟧ self.now n (slice_index_or result n (pos 0)) }
     {
-        // By a loop: from `array::from_fn` it could not be told that each call asks this checker.
         let mut sums = [0; CONTRACTS];
         for (n, sum) in sums.iter_mut().enumerate() {
             *sum = self.position(n as u8);
