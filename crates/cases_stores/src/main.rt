@@ -86,6 +86,7 @@ fn without_room(rt: HostRuntime, slot: Slot, entry: Entry) -> io::Result<()> {
     show_no_room(rt, &mut ordered)
 }
 
+// 0 for no fault, as it is printed.
 fn length(r: Result<(), TableFault>) -> u8 {
     r.err().map_or(0, |fault| fault.number())
 }

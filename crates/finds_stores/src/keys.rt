@@ -5,7 +5,7 @@ use text::{Kind, Side};
 
 // The trade of a number: its id has eight digits, so that the order of keys is that of numbers.
 pub(crate) fn key_of(number: u32) -> Option<Key> {
-    // Digit by digit: the number's last eight, with zeros before them.
+    // Digit by digit: the number's last eight, with zeros before them. A format would ask for memory, and for a `Result` here and in each caller.
     let mut id = [b'0'; 8];
     let mut rest = number;
     for digit in id.iter_mut().rev() {
