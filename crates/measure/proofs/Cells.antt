@@ -1,8 +1,6 @@
 -- What stands in the cells of a sheet.
-use Rattle.std.proofs.Common.{◌≡◌, ℕ, zero, suc, ◌+◌, ◌-◌, ◌%◌, ◌^◌, ◌<◌, ◌≤◌, Bool, true, false, cond, eqb, List, length, get_or, set, replicate, ℤ, pos, neg_ℤ, sym, refl, ap, ◌∙◌, ⊎_elim, subst, arith, get_or-set_other, get_or-set_same}
+use Rattle.std.proofs.Common.{◌≡◌, ℕ, zero, suc, ◌+◌, ◌-◌, ◌%◌, ◌^◌, ◌<◌, ◌≤◌, Bool, true, false, cond, eqb, List, length, get_or, set, replicate, ℤ, pos, neg_ℤ, sym, refl, ap, ◌∙◌, ⊎_elim, arith, get_or-set_other, get_or-set_same}
 use lib.ListN.{get_or-replicate, length-replicate}
-use denote.Param.Members.{Mut, Called}
-use Rattle.std.specs.Array.{IsFromFnResultFrom}
 use Rattle.std.proofs.lemmas.List.{get_or_past}
 use Rattle.std.proofs.lemmas.Bool.{cases_eq, cases_lt, eq-eqb, ne_eqb}
 use Rattle.life.specs.Parts.{KeyParts, LifeParts}
@@ -13,26 +11,6 @@ use Rattle.measure.specs.Laws.{cell_sheet, sheet_ext}
 
 pub sheet_is : (x : Sheet) (f : ℕ → ℕ) → ((n : ℕ) → n < 64 → cell x n ≡ f n % 2 ^ 64) → x ≡ sheet f
 sheet_is x f h = sheet_ext x (sheet f) (λ n p. h n p ∙ sym (cell_sheet f n p))
-
--- ---- Cells made by calls
-
--- calls that change nothing and give h at each index made ys
-pub made_at : {F : Type 0} (g : Mut F (ℕ × Unit {0}) ℕ) (f : F) (h : ℕ → ℕ) → ((i y : ℕ) (q : F) → Called g f (i, tt) y q → (q ≡ f) × (y ≡ h i)) → (ys : List ℕ) (k i : ℕ) → IsFromFnResultFrom g f ys i k → (n : ℕ) → i ≤ n → n < i + k → get_or ys n 0 ≡ h n
-made_at g f h each ys zero i made n low high = absurd (omega arith)
-made_at g f h each ys (suc k) i (q, y, here, called, rest) n low high =
-    let one = each i y q called in
-    ⊎_elim
-    (λ (e : n ≡ i). ap (λ m. get_or ys m 0) e ∙ here.1 0 ∙ one.1 ∙ ap h (sym e))
-    (λ other. made_at g f h each ys k (i + 1) (subst (λ p. IsFromFnResultFrom g p ys (i + 1) k) one.0 rest) n (omega (arith, other)) (omega arith))
-    (cases_eq n i)
-
--- and if each is a remainder, every cell is small
-pub made_fit : {F : Type 0} (g : Mut F (ℕ × Unit {0}) ℕ) (f : F) (h : ℕ → ℕ) → ((i y : ℕ) (q : F) → Called g f (i, tt) y q → (q ≡ f) × (y ≡ h i % 2 ^ 64)) → (ys : List ℕ) → length ys ≡ 64 → IsFromFnResultFrom g f ys 0 64 → (n : ℕ) → get_or ys n 0 < 2 ^ 64
-made_fit g f h each ys long made n =
-    ⊎_elim
-    (λ below. omega (arith, made_at g f (λ i. h i % 2 ^ 64) each ys 64 0 made n (omega arith) below))
-    (λ past. omega (arith, get_or_past {X = ℕ} ys n 0 (omega (arith, long))))
-    (cases_lt n 64)
 
 -- ---- No sheet
 
