@@ -1,4 +1,5 @@
 pub mod Errors
 pub mod Lines
 pub mod Marking
+pub mod Noting
 pub mod Resending
