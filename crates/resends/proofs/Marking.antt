@@ -58,3 +58,7 @@ kept_from all (c ∷ cs) (m ∷ ms) n e =
 
 pub kept_all : (cs : List Spoken) (ms : List Mark) → calls_said (filter_map (kept_at (marks_in ms)) (enumerate_from 0 (zip cs ms))) ≡ kept_calls (calls_said cs) (marks_in ms)
 kept_all cs ms = kept_from (marks_in ms) cs ms 0 refl
+
+-- what the marks of a run keep of its calls are the survivors
+pub kept_of_run : (b : Book) (cs left : List Call) (ms : List MarkParts) → ms ≡ marks_of (log b cs) → left ≡ kept_calls cs ms → left ≡ survivors (log b cs)
+kept_of_run b cs left ms e k = k ∙ (λ i. kept_calls (sym (log_calls cs b) i) (e i)) ∙ kept_survivors (log b cs)

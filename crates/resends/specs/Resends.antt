@@ -1,11 +1,13 @@
 -- What is left of a list of calls, and what it does when it is sent again.
-use Rattle.std.specs.Prelude.{◌≡◌, ℕ, List, [], ◌∷◌, length}
+use Rattle.std.specs.Prelude.{◌≡◌, ℕ, Bool, true, false, List, [], ◌∷◌, length, Ok, Err, Result}
 use Rattle.std.specs.List.{AllZip}
 use Rattle.measure.specs.declared.measure.Measure.{Ghosts}
 use Rattle.life.specs.Lives.{Same}
 use Rattle.book.specs.Book.{Book, empty_book, Call, AddEntity, AddContract, NameFile, Identify, Withdraw, Close, Judge, LookUp, Total, Answer, Accepted}
 use Rattle.book.specs.Laws.{log, survivors, FewerLines}
 use Rattle.calls.specs.Follows.{Ran}
+use Rattle.resends.specs.declared.sending.ResendError.{ResendError}
+use Rattle.resends.specs.declared.sending.ResendError.TheVariants.{OtherCapacity, NoMemory}
 
 -- a judged line is answered 'accepted'
 abbrev pub LineAccepted : Call → Answer → Type 0
@@ -41,3 +43,9 @@ pub record Resends {V : Type 0} (weighing : Ghosts V) (capacity : ℕ) (calls : 
   pub same_lives : Same second.lives first.lives
   pub same_number : length second.lives ≡ length first.lives
   pub same_total : other ≡ sum
+
+-- whether nothing was sent again since the second store has room for another number of lives
+abbrev pub other_capacity : {V : Type 0} → Result V ResendError → Bool
+other_capacity (Ok v) = false
+other_capacity (Err OtherCapacity) = true
+other_capacity (Err NoMemory) = false

@@ -3,4 +3,7 @@
 
 mod mark;
 mod marks;
+mod sending;
 mod survivors;
+
+pub use sending::{ResendError, Resent, resend};

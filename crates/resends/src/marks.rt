@@ -42,7 +42,11 @@ fn mark_of(contracts: &mut ContractList, call: &Call, answer: &Answer) -> Mark
 }
 
 // The marks of the calls of a run, from its answers.
-pub(crate) fn marks(heap: Global, calls: &[Call], answers: &[Answer]) -> Result<Vec<Mark>, AllocError>
+pub(crate) fn marks(
+    heap: Global,
+    calls: &[Call],
+    answers: &[Answer],
+) -> Result<Vec<Mark>, AllocError>
     ensures { IfOk result (λ v. (capacity : ℕ) → answers_said answers.now ≡ book_answers (empty_book capacity) (calls_said calls.now) → marks_in v.items ≡ marks_of (log (empty_book capacity) (calls_said calls.now))) }
 {
     let mut contracts = ContractList::new(heap)?;
