@@ -8,7 +8,6 @@ ghost use Rattle.std.specs.Str.{bytes_eq};
 ghost use Rattle.text.specs.Texts.{text_of};
 
 use crate::bounded::Text;
-use crate::texts::same_bytes;
 use std::cmp::Ordering;
 
 impl<const N: usize> PartialEq for Text<N> {
@@ -16,9 +15,9 @@ impl<const N: usize> PartialEq for Text<N> {
 
     ghost laws = { Prim.search (comparing, rules) };
 
-    // The bytes past the lengths are zero, so all N are compared: a fixed number, with no branch for each byte (see `same_places`).
+    // The bytes past the lengths are zero, so all N are compared: a fixed number.
     fn eq(&self, other: &Text<N>) -> bool {
-        self.len == other.len && same_bytes(&self.bytes, &other.bytes)
+        self.len == other.len && self.bytes == other.bytes
     }
 }
 
