@@ -54,9 +54,18 @@ pub record Sound (s : List Slot) (c : ℕ) : Type 0 where
 abbrev pub re : (ℕ → ℕ) → ℕ → ℕ → ℕ → ℕ
 re K i v m = cond (m == i) v (K m)
 
--- some chains are linked
-abbrev pub Chains : List Slot → ℕ → Type 0
-Chains s c = (K : ℕ → ℕ) × Linked K s c
+-- the slots 1 to c stand in the table and are linked in some chains, and b is a chain of the table
+pub record HasChain (s : List Slot) (c b : ℕ) : Type 0 where
+  pub linked : (K : ℕ → ℕ) × Linked K s c
+  pub fits : c < length s
+  pub low : 0 < b
+  pub high : b < length s
+
+-- the slot i is one of the slots 1 to c, which are in use, and links can name every slot of the table
+pub record InUse (s : List Slot) (c i : ℕ) : Type 0 where
+  pub small : length s ≤ 65536
+  pub some : 0 < i
+  pub within : i ≤ c
 
 -- r is the place of the key k among the slots 1 to c, or 0 if there is none
 pub record Sought (s : List Slot) (c : ℕ) (k : Key) (r : ℕ) : Type 0 where
