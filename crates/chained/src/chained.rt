@@ -32,6 +32,7 @@ impl<'t> Chained<'t> {
     }
 }
 
+// A method's own clauses stand in place of the trait's and have to give them: `Puts` and `Drops` do, and `empty` says `holds` again.
 impl<'t> Store for Chained<'t> {
     ghost pairs = { λ s. pairs_in s.table.slots.now s.table.count };
 

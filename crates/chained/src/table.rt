@@ -51,7 +51,8 @@ fn place(slots: &[Slot], count: usize, b: usize, i: usize) -> Option<usize>
     ensures spot { Spot result (length slots.now) }
     ensures passes { Place slots.now count b i (unwrap_or result 0) }
 {
-    // A loop: it follows links from slot to slot, not a counted index.
+    // A loop: it follows links, and ends since they fall. To the library `std::iter::successors` is endless: `last` may be called on it only
+    // behind a `take`. Then a count ends the walk and not the links, and the check leaves open what this function ensures.
     let mut p = None;
     let mut j = slots[b].head as usize;
     while j > i {
@@ -150,7 +151,7 @@ impl<'t> Table<'t> {
         if n < 2 || n > MOST {
             return None;
         }
-        // A loop: it follows links from slot to slot, not a counted index.
+        // A loop, as in `place`: `find` may not be called on `successors` either.
         let mut j = slots[chain(key, n)].head as usize;
         while j > 0 {
             let slot = &slots[j];
@@ -219,7 +220,8 @@ impl<'t> Table<'t> {
     }
 
     // Takes the slot `i` out of use. The last slot in use moves to its place.
-    // `sound` follows from the invariant where a slot is in use. It is a clause, since the bounds of the calls below rest on it.
+    // `sound` follows from the invariant where a slot is in use. It is a clause: without it nine more goals stay open, the bounds of
+    // `slots[count]` and what the calls below require, and seven where a lemma that opens the invariant is named for the whole function.
     fn take_out(&mut self, i: usize)
         requires sound { Sound self.old.slots.now self.old.count }
         requires low { 0 < i }

@@ -32,6 +32,7 @@ impl<'t> Ordered<'t> {
     }
 }
 
+// A method's own clauses stand in place of the trait's and have to give them: `Puts` and `Drops` do, and `empty` says `holds` again.
 impl<'t> Store for Ordered<'t> {
     ghost pairs = { λ s. pairs_in s.table.entries.now s.table.count };
 
