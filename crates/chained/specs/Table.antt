@@ -60,7 +60,7 @@ pub record HasChain (s : List Slot) (c b : ℕ) : Type 0 where
   pub low : 0 < b
   pub high : b < length s
 
--- the slot i is one of the slots 1 to c, which are in use, and links can name every slot of the table
+-- the slot i is one of the slots 1 to c, which are in use, and the table has not too many slots
 pub record InUse (s : List Slot) (c i : ℕ) : Type 0 where
   pub small : length s ≤ 65536
   pub some : 0 < i
