@@ -1,8 +1,7 @@
 // A store over a lent table, by chains of slots.
-ghost use Rattle.std.specs.Prelude.{◌≡◌, false, [], is_ok, if◌then◌else◌, Some, None};
+ghost use Rattle.std.specs.Prelude.{◌≡◌, [], if◌then◌else◌, Some, None};
 ghost use Rattle.life.specs.Faults.{length_refused as refused};
-ghost use Rattle.life.specs.Pairs.{erase, added, admits, Same};
-ghost use Rattle.chained.specs.Table.{allowed_length as allowed, room_of as room_in, pairs_of as pairs_in, Emptied, Leaves};
+ghost use Rattle.chained.specs.Table.{allowed_length as allowed, room_of as room_in, pairs_of as pairs_in, Emptied, Puts, Drops};
 
 use crate::slot::Slot;
 use crate::table::{MOST, Table};
@@ -33,6 +32,7 @@ impl<'t> Chained<'t> {
     }
 }
 
+// A method's own clauses stand in place of the trait's and have to give them: `Puts` and `Drops` do, and `empty` says `holds` again.
 impl<'t> Store for Chained<'t> {
     ghost pairs = { λ s. pairs_in s.table.slots.now s.table.count };
 
@@ -51,25 +51,19 @@ impl<'t> Store for Chained<'t> {
     }
 
     fn put(&mut self, key: &Key, life: Life) -> Result<(), NoRoom>
-        ensures fits { is_ok result ≡ admits (room_in self.old.table.slots.now) key.now (pairs_in self.old.table.slots.now self.old.table.count) }
-        ensures holds { Same (pairs_in self.new.table.slots.now self.new.table.count) (added (is_ok result) key.now life (pairs_in self.old.table.slots.now self.old.table.count)) }
-        ensures keeps { room_in self.new.table.slots.now ≡ room_in self.old.table.slots.now }
-        ensures table { Leaves self.old.table.slots.now self.old.table.count self.new.table.slots.now self.new.table.count (is_ok result ≡ false) }
+        ensures table { Puts self.old.table.slots.now self.old.table.count self.new.table.slots.now self.new.table.count key.now life result }
     {
         self.table.put(key, life)
     }
 
     fn remove(&mut self, key: &Key)
-        ensures holds { Same (pairs_in self.new.table.slots.now self.new.table.count) (erase key.now (pairs_in self.old.table.slots.now self.old.table.count)) }
-        ensures keeps { room_in self.new.table.slots.now ≡ room_in self.old.table.slots.now }
-        ensures table { Leaves self.old.table.slots.now self.old.table.count self.new.table.slots.now self.new.table.count (room_in self.old.table.slots.now ≡ 0) }
+        ensures table { Drops self.old.table.slots.now self.old.table.count self.new.table.slots.now self.new.table.count key.now }
     {
         self.table.remove(key)
     }
 
     fn empty(&mut self)
         ensures holds { pairs_in self.new.table.slots.now self.new.table.count ≡ [] }
-        ensures keeps { room_in self.new.table.slots.now ≡ room_in self.old.table.slots.now }
         ensures table { Emptied self.old.table.slots.now self.new.table.slots.now }
     {
         self.table.empty()

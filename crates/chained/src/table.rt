@@ -1,7 +1,7 @@
 // A table of slots: which slot has a key, and how a pair comes into its chain and out of it.
 ghost use Rattle.std.specs.Prelude.{◌≡◌, ℕ, ◌<◌, ◌≤◌, true, length, None, Ok, nat_le, unwrap_or};
 ghost use Rattle.life.specs.Pairs.{look, distinct};
-ghost use Rattle.chained.specs.Table.{room_of as room_in, at, chain_of, pairs_of, re, Linked, Chains, Sound, Spot, Place, Found, Rewired, Paired, Kept, Whole, Emptied, Puts, Drops};
+ghost use Rattle.chained.specs.Table.{room_of as room_in, at, chain_of, pairs_of, re, Linked, HasChain, InUse, Sound, Spot, Place, Found, Rewired, Paired, Kept, Whole, Emptied, Puts, Drops};
 
 use crate::slot::Slot;
 use life::{Key, Life, NoRoom};
@@ -47,14 +47,12 @@ fn set_pair(slots: &mut [Slot], i: usize, key: Key, life: Life)
 
 // The place in the chain `b` whose link passes over `i`, or None for the head.
 fn place(slots: &[Slot], count: usize, b: usize, i: usize) -> Option<usize>
-    requires chains { Chains slots.now count }
-    requires fits { count < length slots.now }
-    requires low { 0 < b }
-    requires high { b < length slots.now }
+    requires { HasChain slots.now count b }
     ensures spot { Spot result (length slots.now) }
     ensures passes { Place slots.now count b i (unwrap_or result 0) }
 {
-    // A loop: it follows links from slot to slot, not a counted index.
+    // A loop: it follows links, and ends since they fall. To the library `std::iter::successors` is endless: `last` may be called on it only
+    // behind a `take`. Then a count ends the walk and not the links, and the check leaves open what this function ensures.
     let mut p = None;
     let mut j = slots[b].head as usize;
     while j > i {
@@ -66,13 +64,8 @@ fn place(slots: &[Slot], count: usize, b: usize, i: usize) -> Option<usize>
 
 // Takes the slot `i` out of the chain `b`.
 fn unlink(slots: &mut [Slot], count: usize, b: usize, i: usize)
-    requires chains { Chains slots.old count }
-    requires fits { count < length slots.old }
-    requires small { length slots.old ≤ 65536 }
-    requires low { 0 < b }
-    requires high { b < length slots.old }
-    requires some { 0 < i }
-    requires within { i ≤ count }
+    requires chain { HasChain slots.old count b }
+    requires slot { InUse slots.old count i }
     requires next { (at slots.old i).next ≤ 65536 }
     ensures kept { Kept slots.old slots.new }
     ensures linked { (K : ℕ → ℕ) → Linked K slots.old count → K i ≡ b → Linked (re K i 0) slots.new count }
@@ -84,13 +77,8 @@ fn unlink(slots: &mut [Slot], count: usize, b: usize, i: usize)
 
 // Puts the slot `i` into the chain `b`.
 fn link_in(slots: &mut [Slot], count: usize, b: usize, i: usize)
-    requires chains { Chains slots.old count }
-    requires fits { count < length slots.old }
-    requires small { length slots.old ≤ 65536 }
-    requires low { 0 < b }
-    requires high { b < length slots.old }
-    requires some { 0 < i }
-    requires within { i ≤ count }
+    requires chain { HasChain slots.old count b }
+    requires slot { InUse slots.old count i }
     ensures kept { Kept slots.old slots.new }
     ensures linked { (K : ℕ → ℕ) → Linked K slots.old count → K i ≡ 0 → Linked (re K i b) slots.new count }
 {
@@ -163,7 +151,7 @@ impl<'t> Table<'t> {
         if n < 2 || n > MOST {
             return None;
         }
-        // A loop: it follows links from slot to slot, not a counted index.
+        // A loop, as in `place`: `find` may not be called on `successors` either.
         let mut j = slots[chain(key, n)].head as usize;
         while j > 0 {
             let slot = &slots[j];
@@ -232,7 +220,8 @@ impl<'t> Table<'t> {
     }
 
     // Takes the slot `i` out of use. The last slot in use moves to its place.
-    // `sound` follows from the invariant where a slot is in use. It is a clause, since the bounds of the calls below rest on it.
+    // `sound` follows from the invariant where a slot is in use. It is a clause: without it nine more goals stay open, the bounds of
+    // `slots[count]` and what the calls below require, and seven where a lemma that opens the invariant is named for the whole function.
     fn take_out(&mut self, i: usize)
         requires sound { Sound self.old.slots.now self.old.count }
         requires low { 0 < i }

@@ -7,8 +7,23 @@ use Rattle.life.specs.declared.life.Life.{Life}
 use Rattle.life.specs.Keys.{Before}
 use Rattle.life.proofs.Lookups.{same_absent}
 use Rattle.ordered.specs.declared.entry.Entry.{Entry}
-use Rattle.ordered.specs.Table.{at, room_of, pairs_of, Sound, Sought, Inserted, Deleted, Puts, Drops}
+use Rattle.ordered.specs.Table.{at, room_of, pairs_of, Sound, Sought, Puts, Drops}
 use Rattle.ordered.proofs.Rows.{held, at_same, at_other, room_within, room_to, fits_to, rise, before_apart, one_place, look_none, look_some, pairs_length, puts_in, takes_out}
+
+-- t is s with one entry more at i
+pub record Inserted (s t : List Entry) (c i : ℕ) (e : Entry) : Type 0 where
+  pub size : length t ≡ length s
+  pub low : (m : ℕ) → m < i → at t m ≡ at s m
+  pub here : at t i ≡ e
+  pub high : (m : ℕ) → i < m → m ≤ c → at t m ≡ at s (m - 1)
+  pub rest : (m : ℕ) → c < m → at t m ≡ at s m
+
+-- t is s without the entry at i
+pub record Deleted (s t : List Entry) (c i : ℕ) : Type 0 where
+  pub size : length t ≡ length s
+  pub low : (m : ℕ) → m < i → at t m ≡ at s m
+  pub high : (m : ℕ) → i ≤ m → m + 1 < c → at t m ≡ at s (m + 1)
+  pub rest : (m : ℕ) → c ≤ m + 1 → at t m ≡ at s m
 
 key_of : (e f : Entry) → e ≡ f → e.key ≡ f.key
 key_of e f p = ap (λ (x : Entry). x.key) p

@@ -1,7 +1,6 @@
 // A store over a lent table, in the order of keys.
-ghost use Rattle.std.specs.Prelude.{◌≡◌, [], is_ok, if◌then◌else◌, Some, None};
+ghost use Rattle.std.specs.Prelude.{◌≡◌, [], if◌then◌else◌, Some, None};
 ghost use Rattle.life.specs.Faults.{length_refused as refused};
-ghost use Rattle.life.specs.Pairs.{erase, added, admits, Same};
 ghost use Rattle.ordered.specs.Table.{allowed, room_of as room_in, pairs_of as pairs_in, Puts, Drops};
 
 use crate::entry::Entry;
@@ -33,6 +32,7 @@ impl<'t> Ordered<'t> {
     }
 }
 
+// A method's own clauses stand in place of the trait's and have to give them: `Puts` and `Drops` do, and `empty` says `holds` again.
 impl<'t> Store for Ordered<'t> {
     ghost pairs = { λ s. pairs_in s.table.entries.now s.table.count };
 
@@ -51,17 +51,12 @@ impl<'t> Store for Ordered<'t> {
     }
 
     fn put(&mut self, key: &Key, life: Life) -> Result<(), NoRoom>
-        ensures fits { is_ok result ≡ admits (room_in self.old.table.entries.now) key.now (pairs_in self.old.table.entries.now self.old.table.count) }
-        ensures holds { Same (pairs_in self.new.table.entries.now self.new.table.count) (added (is_ok result) key.now life (pairs_in self.old.table.entries.now self.old.table.count)) }
-        ensures keeps { room_in self.new.table.entries.now ≡ room_in self.old.table.entries.now }
         ensures table { Puts self.old.table.entries.now self.old.table.count self.new.table.entries.now self.new.table.count key.now life result }
     {
         self.table.put(key, life)
     }
 
     fn remove(&mut self, key: &Key)
-        ensures holds { Same (pairs_in self.new.table.entries.now self.new.table.count) (erase key.now (pairs_in self.old.table.entries.now self.old.table.count)) }
-        ensures keeps { room_in self.new.table.entries.now ≡ room_in self.old.table.entries.now }
         ensures table { Drops self.old.table.entries.now self.old.table.count self.new.table.entries.now self.new.table.count key.now }
     {
         self.table.remove(key)
@@ -69,7 +64,6 @@ impl<'t> Store for Ordered<'t> {
 
     fn empty(&mut self)
         ensures holds { pairs_in self.new.table.entries.now self.new.table.count ≡ [] }
-        ensures keeps { room_in self.new.table.entries.now ≡ room_in self.old.table.entries.now }
         ensures table { self.new.table.entries.now ≡ self.old.table.entries.now }
     {
         self.table.empty()

@@ -1,4 +1,4 @@
-use Rattle.std.proofs.Common.{◌-◌, ◌<◌, length, sym, ap, ◌∙◌, arith}
+use Rattle.std.proofs.Common.{◌-◌, ◌<◌, length, rules, sym, ap, ◌∙◌, arith}
 use Rattle.chained.specs.declared.slot.Slot.{Slot}
 use Rattle.chained.specs.Table.{at, chain_of, chain_at, Spare, Drops}
 use Rattle.chained.proofs.Facts.{at_read}
@@ -7,8 +7,8 @@ use Rattle.chained.proofs.Moves.{last_sound, last_becomes, k3, taken_sound, take
 use Rattle.chained.proofs.table.Table.take_out.Goals as goal
 use Rattle.chained.proofs.table.Table.take_out.Goals.{Then-i-count, After-link_in}
 
-pub link_in-requires-clause-chains : goal.link_in-requires-clause-chains
-link_in-requires-clause-chains c =
+pub link_in-requires-clause-chain : goal.link_in-requires-clause-chain
+link_in-requires-clause-chain c =
     let s = c.args.self.now.slots.now in
     let e = c.unlink.ensures in
     let k = e.linked (chain_at s) c.requires.sound.linked (sym (c.chain-b.ensures.is ∙ ap (λ (x : Slot). chain_of x.key (length s)) (at_read s _ _ (omega (arith, c.requires.sound.fits))))) in
@@ -17,7 +17,8 @@ link_in-requires-clause-chains c =
     let pair = paired_to c.set_pair.ensures (ap (λ (x : Slot). x.key) last) (ap (λ (x : Slot). x.life) last) in
     let less : c.args.i < c.args.self.now.count = omega arith in
     let more = c.unlink-2.ensures in
-    (_, k3 _ _ _ _ _ _ c.requires.sound c.requires.low less e.kept chain k more.kept more.linked _ pair)
+    let linked = k3 _ _ _ _ _ _ c.requires.sound c.requires.low less e.kept chain k more.kept more.linked _ pair in
+    search (linked, rules)
 
 -- the last slot is taken out
 last_taken : (c : Then-i-count) → Drops c.args.self.now.slots.now c.args.self.now.count c.unlink.new.slots (c.args.self.now.count - 1) (at c.args.self.now.slots.now c.args.i).key

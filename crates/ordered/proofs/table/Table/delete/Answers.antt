@@ -1,7 +1,6 @@
 use Rattle.std.proofs.Common.{rules, refl}
-use Rattle.ordered.specs.Table.{Deleted}
 use Rattle.ordered.proofs.Rows.{opened}
-use Rattle.ordered.proofs.Changes.{deleted}
+use Rattle.ordered.proofs.Changes.{Deleted, deleted}
 use Rattle.ordered.proofs.table.Table.delete.Goals as goal
 
 pub invariant_of-self : goal.invariant_of-self

@@ -1,7 +1,6 @@
 use Rattle.std.proofs.Common.{rules}
-use Rattle.ordered.specs.Table.{Inserted}
 use Rattle.ordered.proofs.Rows.{opened}
-use Rattle.ordered.proofs.Changes.{inserted}
+use Rattle.ordered.proofs.Changes.{Inserted, inserted}
 use Rattle.ordered.proofs.table.Table.insert.Goals as goal
 
 pub invariant_of-self : goal.invariant_of-self
