@@ -138,8 +138,8 @@ impl<'a> Reader<'a> {
         self.field(|text, _| F::said_by(text))
     }
 
-    // Written out for `id`, `venue` and `code`: a method that takes the test needs a contract on a closure around it, and
-    // is longer than the three.
+    // Written out for `id`, `venue` and `code`, which differ in their test, and for `time` and `quantity`, which differ in their parser: a
+    // method that takes the test or the parser needs a contract on a closure around it, and is longer than what it saves.
     // From `least` to `most` id bytes.
     pub fn id(&mut self, least: usize, most: usize) -> Result<Part<'a>, ReadFault>
         ensures told { seen_in result ≡ read as_word (id_form least most) self.old.place self.old.line.now }

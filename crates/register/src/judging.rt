@@ -5,6 +5,7 @@ ghost use Rattle.life.specs.Lives.{look, Same, altered, erase};
 ghost use Rattle.life.specs.Parts.{LifeParts, key_parts, life_parts};
 ghost use Rattle.measure.specs.Totals.{total_in};
 ghost use Rattle.register.specs.Faults.{refused_by};
+ghost use Rattle.register.specs.Held.{Kept};
 ghost use Rattle.register.specs.Judged.{refusal, lives_after};
 
 use crate::faults::ActFault;
@@ -75,8 +76,7 @@ impl<'s, S: Store, M: Measure> Register<'s, S, M> {
         requires { look (key_parts key.now) self.old.lives ≡ None }
         ensures answers { refused_by result ≡ (if nat_le self.old.room (length self.old.lives) then Some (47, 0) else None) }
         ensures holds { Same self.new.lives (if nat_le self.old.room (length self.old.lives) then self.old.lives else (key_parts key.now, life_parts life) ∷ self.old.lives) }
-        ensures keeps { self.new.room ≡ self.old.room }
-        ensures sums { self.new.total ≡ total_in M.Measure self.new.lives }
+        ensures kept { Kept M.Measure self.old self.new }
     {
         match self.store.put(key, life) {
             Ok(()) => {
@@ -91,8 +91,7 @@ impl<'s, S: Store, M: Measure> Register<'s, S, M> {
     fn alter(&mut self, key: &Key, old: &Life, new: Life)
         requires { look (key_parts key.now) self.old.lives ≡ Some (life_parts old.now) }
         ensures holds { (f : LifeParts → LifeParts) → f (life_parts old.now) ≡ life_parts new → Same self.new.lives (altered (key_parts key.now) f self.old.lives) }
-        ensures keeps { self.new.room ≡ self.old.room }
-        ensures sums { self.new.total ≡ total_in M.Measure self.new.lives }
+        ensures kept { Kept M.Measure self.old self.new }
     {
         let _ = self.store.put(key, new);
         replace(&mut self.total, key, old, &new);
@@ -102,8 +101,7 @@ impl<'s, S: Store, M: Measure> Register<'s, S, M> {
     fn strike(&mut self, key: &Key, old: &Life)
         requires { look (key_parts key.now) self.old.lives ≡ Some (life_parts old.now) }
         ensures holds { Same self.new.lives (erase (key_parts key.now) self.old.lives) }
-        ensures keeps { self.new.room ≡ self.old.room }
-        ensures sums { self.new.total ≡ total_in M.Measure self.new.lives }
+        ensures kept { Kept M.Measure self.old self.new }
     {
         self.store.remove(key);
         go(&mut self.total, key, old);

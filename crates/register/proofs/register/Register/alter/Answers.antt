@@ -1,4 +1,4 @@
-use Rattle.std.proofs.Common.{◌≡◌, is_ok, Some, refl, ap, ◌∙◌, subst}
+use Rattle.std.proofs.Common.{◌≡◌, is_ok, Some, refl, ap, ◌∙◌, subst, rules}
 use Rattle.life.specs.Lives.{plain, look, Same, altered}
 use Rattle.life.specs.Parts.{LifeParts, key_parts, life_parts}
 use Rattle.life.proofs.Lives.{unique_altered}
@@ -36,5 +36,5 @@ returns-clause-holds g c =
     subst (λ (h : Held _). Same (plain (s.pairs c.put.new.self)) (altered k f h.lives)) c.self.view_is
     (put_alters (s.room was) key old c.args.new (s.pairs was) (s.pairs c.put.new.self) (is_ok c.put.result) found c.put.ensures.fits c.put.ensures.holds f is)
 
-pub returns-clause-sums : goal.returns-clause-sums
-returns-clause-sums g c = invariant_of-self g c
+pub returns-clause-kept : goal.returns-clause-kept
+returns-clause-kept g c = record { room = search rules; sums = invariant_of-self g c }

@@ -1,4 +1,4 @@
-use Rattle.std.proofs.Common.{◌≡◌, true, false, cond, [], ◌∷◌, Some, None, sym, refl, ap, ◌∙◌}
+use Rattle.std.proofs.Common.{◌≡◌, true, false, cond, [], ◌∷◌, Some, None, sym, refl, ap, ◌∙◌, rules}
 use Rattle.life.specs.Lives.{plain, look, Same}
 use Rattle.life.specs.Parts.{KeyParts, LifeParts, key_parts, life_parts}
 use Rattle.life.proofs.Lives.{unique_from}
@@ -51,8 +51,8 @@ returns-in-Ok-clause-holds g c =
     let entered = plain_entered key xs (s.pairs c.put.new.self) (plain xs) (λ j. refl) c.args.life c.in-Ok.ensures.holds in
     rw (← c.self.view_is) (λ j. entered j ∙ ap (λ b. look j (cond b (plain xs) (pair ∷ plain xs))) (sym room))
 
-pub returns-in-Ok-clause-sums : goal.returns-in-Ok-clause-sums
-returns-in-Ok-clause-sums g c = invariant_of-self g c
+pub returns-in-Ok-clause-kept : goal.returns-in-Ok-clause-kept
+returns-in-Ok-clause-kept g c = record { room = search rules; sums = invariant_of-self g c }
 
 pub returns-in-Err-clause-holds : goal.returns-in-Err-clause-holds
 returns-in-Err-clause-holds g c =
@@ -66,5 +66,5 @@ returns-in-Err-clause-holds g c =
     let same = plain_same (s.pairs c.put.new.self) xs c.in-Err.ensures.holds in
     rw (← c.self.view_is) (λ j. same j ∙ ap (λ b. look j (cond b (plain xs) (pair ∷ plain xs))) (sym full))
 
-pub returns-in-Err-clause-sums : goal.returns-in-Err-clause-sums
-returns-in-Err-clause-sums g c = invariant_of-self-in-Err g c
+pub returns-in-Err-clause-kept : goal.returns-in-Err-clause-kept
+returns-in-Err-clause-kept g c = record { room = search rules; sums = invariant_of-self-in-Err g c }

@@ -1,4 +1,4 @@
-use Rattle.std.proofs.Common.{◌≡◌, Some, refl, ap, ◌∙◌, subst}
+use Rattle.std.proofs.Common.{◌≡◌, Some, refl, ap, ◌∙◌, subst, rules}
 use Rattle.life.specs.Lives.{plain, look, Same, erase}
 use Rattle.life.specs.Parts.{key_parts, life_parts}
 use Rattle.life.proofs.Lives.{unique_erase}
@@ -29,5 +29,5 @@ returns-clause-holds g c =
     subst (λ (h : Held _). Same (plain (s.pairs c.remove.new.self)) (erase (key_parts key) h.lives)) c.self.view_is
     (plain_removed key xs (s.pairs c.remove.new.self) (plain xs) (λ j. refl) c.remove.ensures.holds)
 
-pub returns-clause-sums : goal.returns-clause-sums
-returns-clause-sums g c = invariant_of-self g c
+pub returns-clause-kept : goal.returns-clause-kept
+returns-clause-kept g c = record { room = search rules; sums = invariant_of-self g c }
