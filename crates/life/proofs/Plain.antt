@@ -1,5 +1,5 @@
 -- The pairs of a store as plain data: the same look-ups, and what they become when the store changes.
-use Rattle.std.proofs.Common.{◌≡◌, ℕ, Bool, true, false, cond, List, [], ◌∷◌, length, Some, None, Option, sym, refl, ap, ◌∙◌, ⊎_elim, arith}
+use Rattle.std.proofs.Common.{◌≡◌, ℕ, ◌≤◌, Bool, true, false, cond, List, [], ◌∷◌, length, Some, None, Option, sym, refl, ap, ◌∙◌, ⊎_elim, arith}
 use lib.ListN.{length-map}
 use Rattle.std.proofs.lemmas.Bool.{cond-false, cases_Bool}
 use Rattle.life.specs.declared.key.Key.{Key}
@@ -41,6 +41,9 @@ plain_unique [] u = refl
 plain_unique (p ∷ xs) u =
     let q = stored.unique_parts p xs u in
     unique_from (plain_pair p) (plain xs) (plain_look p.0 xs ∙ ap life_in q.0) (plain_unique xs q.1)
+
+pub plain_fits : (xs : List (Key × Life)) (room : ℕ) → length xs ≤ room → length (plain xs) ≤ room
+plain_fits xs room h = omega (arith, length-map xs plain_pair)
 
 -- a key that has a life in plain data is one of the store's
 held_key : (j : KeyParts) (l : LifeParts) (xs : List (Key × Life)) → look j (plain xs) ≡ Some l → (k : Key) × (j ≡ key_parts k)
