@@ -2,7 +2,8 @@
 use Rattle.measure.specs.declared.measure.Measure.{Ghosts}
 use Rattle.std.proofs.Common.{◌≡◌, Bool, true, false, [], ◌∷◌, ◌++◌, IfOk, IfErr, Ok, Err, Result, sym, ap, ◌∙◌, subst, MatchResult}
 use Rattle.std.specs.declared.alloc.AllocError.{AllocError}
-use Rattle.book.specs.Book.{Call, Answer}
+use Rattle.files.specs.Held.{Filed}
+use Rattle.book.specs.Book.{with_files, Call, Answer}
 use Rattle.calls.specs.declared.call.Call.{Call as Asked}
 use Rattle.calls.specs.declared.checker.Checker.{Checker}
 use Rattle.calls.specs.Follows.{book_after}
@@ -17,6 +18,12 @@ module _ {S M : Type 0} (weighing : Ghosts M) where
   continues was is c a s capacity past f =
       more weighing capacity past c (book_in was) (book_in is) was.register.total is.register.total a
       was.register.unique is.register.unique s f
+
+  -- a step that alters nothing but the files
+  pub continues_files : (was : Checker S M) (files : Filed) (c : Call) (a : Answer) →
+      Step weighing (book_in was) was.register.total c a (with_files (book_in was) files.files) was.register.total →
+      Continues weighing was c a (record { register = was.register; entities = was.entities; contracts = was.contracts; files = files })
+  continues_files was files c a s = continues was (record { register = was.register; entities = was.entities; contracts = was.contracts; files = files }) c a s
 
   -- naming a file, where want of memory is no answer
   pub named_so : (was is : Checker S M) (c : Call) (had : Bool) (a : Answer) (r : Result Spoken AllocError) →

@@ -1,4 +1,5 @@
-// Texts are compared as their bytes are.
+// Texts are compared as their bytes are. Written out: clauses speak of the bytes of a text, and those of a derived comparison would speak of its
+// array and its length.
 ghost use Rattle.std.proofs.Common.{rules};
 ghost use Rattle.std.specs.Cmp.{partial_order_from_own_ties};
 ghost use Rattle.std.specs.Cmp.Lexicographic.{slice_cmp};

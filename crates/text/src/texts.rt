@@ -81,7 +81,7 @@ pub fn is_among<const N: usize>(texts: &[Text<N>], text: &[u8]) -> bool
     texts.iter().any(
         |t| -> bool
             ensures { result ≡ bytes_eq text.entry.now (text_of t.now) }
-        { same_bytes(text, t.as_slice()) },
+        { text == t.as_slice() },
     )
 }
 
