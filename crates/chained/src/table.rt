@@ -1,7 +1,7 @@
 // A table of slots: which slot has a key, and how a pair comes into its chain and out of it.
-ghost use Rattle.std.specs.Prelude.{◌≡◌, ℕ, ◌<◌, ◌≤◌, true, length, None, Ok, nat_le, unwrap_or};
-ghost use Rattle.life.specs.Pairs.{look, distinct};
-ghost use Rattle.chained.specs.Table.{room_of as room_in, at, chain_of, pairs_of, re, Linked, HasChain, InUse, Sound, Spot, Place, Found, Rewired, Paired, Kept, Whole, Emptied, Puts, Drops};
+ghost use Rattle.std.specs.Prelude.{◌≡◌, ℕ, ◌<◌, ◌≤◌, length, None, Ok, nat_le, unwrap_or};
+ghost use Rattle.life.specs.Pairs.{look};
+ghost use Rattle.chained.specs.Table.{room_of as room_in, at, chain_of, pairs_of, re, Linked, HasChain, InUse, Sound, Spot, Place, Found, Rewired, Paired, Kept, Emptied, Held, Puts, Drops};
 
 use crate::slot::Slot;
 use life::{Key, Life, NoRoom};
@@ -119,9 +119,7 @@ fn prepare(slots: &mut [Slot])
 pub(crate) struct Table<'t> {
     pub(crate) slots: &'t mut [Slot],
     pub(crate) count: usize,
-    ghost ok: { ∥ Whole slots.now count ∥₁ },
-    ghost apart: { distinct (pairs_of slots.now count) ≡ true },
-    ghost fits: { length (pairs_of slots.now count) ≤ room_in slots.now },
+    ghost held: { Held slots.now count },
 }
 
 impl<'t> Table<'t> {

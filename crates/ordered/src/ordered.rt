@@ -38,9 +38,9 @@ impl<'t> Store for Ordered<'t> {
 
     ghost room = { λ s. room_in s.table.entries.now };
 
-    ghost unique = { λ s. s.table.apart };
+    ghost unique = { λ s. s.table.held.apart };
 
-    ghost within = { λ s. s.table.fits };
+    ghost within = { λ s. s.table.held.within };
 
     fn capacity(&self) -> usize {
         self.table.room()

@@ -1,7 +1,7 @@
 // A table of entries in rising order of their keys.
-ghost use Rattle.std.specs.Prelude.{◌≡◌, ◌<◌, ◌≤◌, true, length, Ok, Err, nat_le};
-ghost use Rattle.life.specs.Pairs.{look, distinct};
-ghost use Rattle.ordered.specs.Table.{at, room_of as room_in, pairs_of as pairs_in, Sound, Sought, Puts, Drops};
+ghost use Rattle.std.specs.Prelude.{◌≡◌, ◌<◌, Ok, Err, nat_le};
+ghost use Rattle.life.specs.Pairs.{look};
+ghost use Rattle.ordered.specs.Table.{at, room_of as room_in, pairs_of as pairs_in, Held, Sought, Puts, Drops};
 
 use crate::entry::Entry;
 use life::{Key, Life, NoRoom};
@@ -15,9 +15,7 @@ pub(crate) const LONGEST: usize = 65535;
 pub(crate) struct Table<'t> {
     pub(crate) entries: &'t mut [Entry],
     pub(crate) count: usize,
-    ghost ok: { ∥ Sound entries.now count ∥₁ },
-    ghost apart: { distinct (pairs_in entries.now count) ≡ true },
-    ghost fits: { length (pairs_in entries.now count) ≤ room_in entries.now },
+    ghost held: { Held entries.now count },
 }
 
 impl<'t> Table<'t> {

@@ -52,17 +52,13 @@ taken c =
     (taken_becomes _ _ _ _ _ _ c.requires.sound c.requires.low less e.kept chain k more.kept more.linked _ pair _ into.kept into.linked)
 
 pub invariant_of-self : goal.invariant_of-self
-invariant_of-self c =
-    let then = (last_taken (goal.at.invariant_of-self c).Then-i-count).held in
-    record { ok = then.in_chains; apart = then.apart; fits = then.within }
+invariant_of-self c = record { held = (last_taken (goal.at.invariant_of-self c).Then-i-count).held }
 
 pub returns-then-i-count : goal.returns-then-i-count
 returns-then-i-count c = last_taken (goal.at.returns-then-i-count c).Then-i-count
 
 pub invariant_of-self-2 : goal.invariant_of-self-2
-invariant_of-self-2 c =
-    let then = (taken (goal.at.invariant_of-self-2 c).After-link_in).held in
-    record { ok = then.in_chains; apart = then.apart; fits = then.within }
+invariant_of-self-2 c = record { held = (taken (goal.at.invariant_of-self-2 c).After-link_in).held }
 
 pub returns : goal.returns
 returns c = taken (goal.at.returns c).After-link_in
