@@ -3,7 +3,7 @@ use Rattle.std.proofs.lemmas.Bool.{or_right, lt-ltb}
 use Rattle.life.specs.Pairs.{look}
 use Rattle.life.proofs.Lookups.{look_put}
 use Rattle.chained.specs.declared.slot.Slot.{Slot}
-use Rattle.chained.specs.Table.{pairs_of, room_of, Puts}
+use Rattle.chained.specs.Table.{pairs_of, room_of, PutInto}
 use Rattle.chained.proofs.Facts.{opened, sound_with, at_read, held, whole, room_to, room_small, pairs_length}
 use Rattle.chained.proofs.Links.{rewired_to, added, added_pairs}
 use Rattle.chained.proofs.table.Table.add.Goals as goal
@@ -17,7 +17,7 @@ set_link-requires-clause-small c =
     let here = ap (λ (x : Slot). x.head) (at_read s c.chain-b.result c.index-slots-b.result b.high) in
     omega (arith, here, (sound.linked.heads _ b.low b.high).below, sound.fits, sound.small)
 
-put_in : (c : After-set_link-2) → Puts c.args.self.now.slots.now c.args.self.now.count c.set_link-2.new.slots (c.args.self.now.count + 1) c.args.key.now c.args.life (Ok tt)
+put_in : (c : After-set_link-2) → PutInto c.args.self.now.slots.now c.args.self.now.count c.set_link-2.new.slots (c.args.self.now.count + 1) c.args.key.now c.args.life (Ok tt)
 put_in c =
     let s = c.args.self.now.slots.now in
     let n = c.args.self.now.count in

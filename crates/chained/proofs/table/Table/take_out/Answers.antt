@@ -1,6 +1,6 @@
 use Rattle.std.proofs.Common.{◌-◌, ◌<◌, length, rules, sym, ap, ◌∙◌, arith}
 use Rattle.chained.specs.declared.slot.Slot.{Slot}
-use Rattle.chained.specs.Table.{at, chain_of, chain_at, Spare, Drops}
+use Rattle.chained.specs.Table.{at, chain_of, chain_at, Spare, TakenFrom}
 use Rattle.chained.proofs.Facts.{at_read}
 use Rattle.chained.proofs.Links.{paired_to}
 use Rattle.chained.proofs.Moves.{last_sound, last_becomes, k3, taken_sound, taken_becomes, drops}
@@ -21,7 +21,7 @@ link_in-requires-clause-chain c =
     search (linked, rules)
 
 -- the last slot is taken out
-last_taken : (c : Then-i-count) → Drops c.args.self.now.slots.now c.args.self.now.count c.unlink.new.slots (c.args.self.now.count - 1) (at c.args.self.now.slots.now c.args.i).key
+last_taken : (c : Then-i-count) → TakenFrom c.args.self.now.slots.now c.args.self.now.count c.unlink.new.slots (c.args.self.now.count - 1) (at c.args.self.now.slots.now c.args.i).key
 last_taken c =
     let s = c.args.self.now.slots.now in
     let e = c.unlink.ensures in
@@ -32,7 +32,7 @@ last_taken c =
     (last_becomes _ _ _ _ c.requires.sound c.requires.low c.if-i-count.true e.kept k)
 
 -- another one is, and the last one moves to its place
-taken : (c : After-link_in) → Drops c.args.self.now.slots.now c.args.self.now.count c.link_in.new.slots (c.args.self.now.count - 1) (at c.args.self.now.slots.now c.args.i).key
+taken : (c : After-link_in) → TakenFrom c.args.self.now.slots.now c.args.self.now.count c.link_in.new.slots (c.args.self.now.count - 1) (at c.args.self.now.slots.now c.args.i).key
 taken c =
     let s = c.args.self.now.slots.now in
     let e = c.unlink.ensures in
