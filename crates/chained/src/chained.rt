@@ -9,6 +9,9 @@ use crate::table::{MOST, Table};
 use life::{Key, Life, NoRoom, Store, TableFault, check_length};
 
 // Two layers are a rule of the project: a plain table that holds the lent slice, and around it the store with its promises.
+// The store of `ordered` is alike but for names and two clauses, and both are written out: a trait of tables, over which one store could be
+// generic, would say each clause of `Store` again, and `new` and `empty` promise different things: here they end the chains, there they write
+// nothing.
 #[derive(Drop)]
 pub struct Chained<'t> {
     table: Table<'t>,

@@ -9,6 +9,9 @@ use crate::table::{LONGEST, Table};
 use life::{Key, Life, NoRoom, Store, TableFault, check_length};
 
 // Two layers are a rule of the project: a plain table that holds the lent slice, and around it the store with its promises.
+// The store of `chained` is alike but for names and two clauses, and both are written out: a trait of tables, over which one store could be
+// generic, would say each clause of `Store` again, and `new` and `empty` promise different things: here they write nothing, there they end the
+// chains.
 #[derive(Drop)]
 pub struct Ordered<'t> {
     table: Table<'t>,
