@@ -114,7 +114,8 @@ fn prepare(slots: &mut [Slot])
 }
 
 // A lent table, and how many of its slots are in use, each in the chain of its key. The table of `ordered` has methods of these
-// names, but works on its entries in another way: only `is_full` is the same.
+// names, but for `add` and `take_out`, which are `insert` and `delete` there, and works on its entries in another way: only
+// `is_full` is the same.
 #[derive(Drop)]
 pub(crate) struct Table<'t> {
     pub(crate) slots: &'t mut [Slot],
