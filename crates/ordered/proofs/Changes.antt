@@ -34,9 +34,6 @@ absent s c k i h m l e =
     ⊎_elim (λ q. before_apart _ _ (h.1 m q) e) (λ q. before_apart _ _ (h.2 m q l) (sym e)) (cases_lt m i)
 
 module _ (s : List Entry) (c i : ℕ) (k : Key) (l : Life) (old : Sound s c) (low : i < c) (here : (at s i).key ≡ k) where
-  e : Entry
-  e = record { key = k; life = l }
-
   pub replaced : PutInto s c (set s i (record { key = k; life = l })) c k l (Ok tt)
   replaced =
       let t : List Entry = set s i (record { key = k; life = l }) in
