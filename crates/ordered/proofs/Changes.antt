@@ -120,7 +120,8 @@ module _ (s t : List Entry) (c i : ℕ) (k : Key) (l : Life) (old : Sound s c) (
     rest = λ m h. w.rest m (omega arith);
   }
 
-pub refused : (s : List Entry) (c i : ℕ) (k : Key) (l : Life) → Sound s c → room_of s ≤ c → Sought s c k (Err i) → PutInto s c s c k l (Err (record {}))
+pub refused : (s : List Entry) (c i : ℕ) (k : Key) (l : Life) → Sound s c → room_of s ≤ c → Sought s c k (Err i)
+    → PutInto s c s c k l (Err (record {}))
 refused s c i k l old full place = record {
   size = refl;
   held = held old;

@@ -17,20 +17,22 @@ set_link-requires-clause-small c =
     let here = ap (λ (x : Slot). x.head) (at_read s c.chain-b.result c.index-slots-b.result b.high) in
     omega (arith, here, (sound.linked.heads _ b.low b.high).below, sound.fits, sound.small)
 
-put_in : (c : After-set_link-2) → PutInto c.args.self.now.slots.now c.args.self.now.count c.set_link-2.new.slots (c.args.self.now.count + 1) c.args.key.now c.args.life (Ok tt)
+put_in : (c : After-set_link-2)
+    → PutInto c.args.self.now.slots.now c.args.self.now.count c.set_link-2.new.slots (c.args.self.now.count + 1) c.args.key.now c.args.life (Ok tt)
 put_in c =
     let s = c.args.self.now.slots.now in
     let n = c.args.self.now.count in
+    let sound = sound_with _ _ (opened c.args.self.now.held) c.requires.room in
     let b = c.chain-b.ensures in
-    let room : n + 1 < length s = omega (arith, room_small s (sound_with _ _ (opened c.args.self.now.held) c.requires.room).small, c.requires.room) in
+    let room : n + 1 < length s = omega (arith, room_small s sound.small, c.requires.room) in
     let one = rewired_to c.set_link.ensures (ap (λ (x : Slot). x.head) (at_read s _ _ b.high)) in
     let fresh = c.requires.fresh.missed refl in
     let size = c.set_link-2.ensures.size ∙ c.set_pair.ensures.size ∙ c.set_link.ensures.size in
     record {
-      held = held (whole _ _ (added _ _ _ _ _ _ _ _ (sound_with _ _ (opened c.args.self.now.held) c.requires.room) room fresh b.is b.low b.high one c.set_pair.ensures c.set_link-2.ensures));
+      held = held (whole _ _ (added _ _ _ _ _ _ _ _ sound room fresh b.is b.low b.high one c.set_pair.ensures c.set_link-2.ensures));
       room = room_to _ _ size;
       fits = sym (or_right _ _ (lt-ltb (length (pairs_of s n)) (room_of s) (omega (arith, pairs_length s n, c.requires.room))));
-      holds = λ q. ap (look q) (added_pairs _ _ _ _ _ _ _ _ (sound_with _ _ (opened c.args.self.now.held) c.requires.room) room fresh b.is b.low b.high one c.set_pair.ensures c.set_link-2.ensures) ∙ sym (look_put q _ _ _);
+      holds = λ q. ap (look q) (added_pairs _ _ _ _ _ _ _ _ sound room fresh b.is b.low b.high one c.set_pair.ensures c.set_link-2.ensures) ∙ sym (look_put q _ _ _);
       leaves = record {
         size = size;
         spare = record {

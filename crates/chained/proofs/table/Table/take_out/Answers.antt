@@ -21,7 +21,8 @@ link_in-requires-clause-chain c =
     search (linked, rules)
 
 -- the last slot is taken out
-last_taken : (c : Then-i-count) → TakenFrom c.args.self.now.slots.now c.args.self.now.count c.unlink.new.slots (c.args.self.now.count - 1) (at c.args.self.now.slots.now c.args.i).key
+last_taken : (c : Then-i-count)
+    → TakenFrom c.args.self.now.slots.now c.args.self.now.count c.unlink.new.slots (c.args.self.now.count - 1) (at c.args.self.now.slots.now c.args.i).key
 last_taken c =
     let s = c.args.self.now.slots.now in
     let e = c.unlink.ensures in
@@ -32,7 +33,8 @@ last_taken c =
     (last_becomes _ _ _ _ c.requires.sound c.requires.low c.if-i-count.true e.kept k)
 
 -- another one is, and the last one moves to its place
-taken : (c : After-link_in) → TakenFrom c.args.self.now.slots.now c.args.self.now.count c.link_in.new.slots (c.args.self.now.count - 1) (at c.args.self.now.slots.now c.args.i).key
+taken : (c : After-link_in)
+    → TakenFrom c.args.self.now.slots.now c.args.self.now.count c.link_in.new.slots (c.args.self.now.count - 1) (at c.args.self.now.slots.now c.args.i).key
 taken c =
     let s = c.args.self.now.slots.now in
     let e = c.unlink.ensures in
