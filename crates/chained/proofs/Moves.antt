@@ -7,7 +7,7 @@ use Rattle.chained.specs.declared.slot.Slot.{Slot}
 use Rattle.life.specs.Keys.{alike as same}
 use Rattle.life.specs.Pairs.{look as lookup}
 use Rattle.life.proofs.Lookups.{look_erase}
-use Rattle.chained.specs.Table.{at, chain_of, chain_at, pairs_of, re, Linked, Sound, Paired, Kept, Spare, Drops}
+use Rattle.chained.specs.Table.{at, chain_of, chain_at, pairs_of, re, Linked, Sound, Paired, Kept, Spare, TakenFrom}
 use Rattle.chained.proofs.Facts.{same_true, same_self, lookup_none, held, whole, room_to, room_small}
 use Rattle.chained.proofs.Chains.{lookup_some}
 use Rattle.chained.proofs.Links.{prev_to, chain_same, re_same, re_else}
@@ -189,7 +189,7 @@ module _ (s u v : List Slot) (c i d : ℕ) (old : Sound s c) (some : 0 < i) (les
 
 -- what is promised of a table from which a slot was taken
 pub drops : (s t : List Slot) (c i : ℕ) → Sound s c → 0 < i → i ≤ c → length t ≡ length s → Spare s t (c - 1) → Sound t (c - 1)
-    → Becomes (pairs_of s c) (pairs_of t (c - 1)) (at s i).key None → Drops s c t (c - 1) (at s i).key
+    → Becomes (pairs_of s c) (pairs_of t (c - 1)) (at s i).key None → TakenFrom s c t (c - 1) (at s i).key
 drops s t c i old some within size spare new gone = record {
   held = held (whole _ _ new);
   room = room_to _ _ size;

@@ -163,7 +163,7 @@ pub record Held (s : List Slot) (c : ℕ) : Type 0 where
   pub within : length (pairs_of s c) ≤ room_of s
 
 -- what `put` does to a table s with c slots in use, which is then t with d; where the pair is refused nothing is written
-pub record Puts (s : List Slot) (c : ℕ) (t : List Slot) (d : ℕ) (k : Key) (l : Life) (r : Result (Unit {0}) NoRoom) : Type 0 where
+pub record PutInto (s : List Slot) (c : ℕ) (t : List Slot) (d : ℕ) (k : Key) (l : Life) (r : Result (Unit {0}) NoRoom) : Type 0 where
   pub held : Held t d
   pub room : room_of t ≡ room_of s
   pub fits : is_ok r ≡ admits (room_of s) k (pairs_of s c)
@@ -171,7 +171,7 @@ pub record Puts (s : List Slot) (c : ℕ) (t : List Slot) (d : ℕ) (k : Key) (l
   pub leaves : Leaves s c t d (is_ok r ≡ false)
 
 -- what `remove` does; a table without room is not written
-pub record Drops (s : List Slot) (c : ℕ) (t : List Slot) (d : ℕ) (k : Key) : Type 0 where
+pub record TakenFrom (s : List Slot) (c : ℕ) (t : List Slot) (d : ℕ) (k : Key) : Type 0 where
   pub held : Held t d
   pub room : room_of t ≡ room_of s
   pub holds : Same (pairs_of t d) (erase k (pairs_of s c))

@@ -44,7 +44,7 @@ pub record Held (s : List Entry) (c : ℕ) : Type 0 where
 
 -- what `put` does to a table s with c entries in use, which is then t with d: it keeps its length and its order, and a new key
 -- that finds no room alters nothing; the entries that are not in use stay
-pub record Puts (s : List Entry) (c : ℕ) (t : List Entry) (d : ℕ) (k : Key) (l : Life) (r : Result (Unit {0}) NoRoom) : Type 0 where
+pub record PutInto (s : List Entry) (c : ℕ) (t : List Entry) (d : ℕ) (k : Key) (l : Life) (r : Result (Unit {0}) NoRoom) : Type 0 where
   pub size : length t ≡ length s
   pub held : Held t d
   pub room : room_of t ≡ room_of s
@@ -54,7 +54,7 @@ pub record Puts (s : List Entry) (c : ℕ) (t : List Entry) (d : ℕ) (k : Key) 
   pub rest : (m : ℕ) → d ≤ m → at t m ≡ at s m
 
 -- what `remove` does; a table without room is not written
-pub record Drops (s : List Entry) (c : ℕ) (t : List Entry) (d : ℕ) (k : Key) : Type 0 where
+pub record TakenFrom (s : List Entry) (c : ℕ) (t : List Entry) (d : ℕ) (k : Key) : Type 0 where
   pub size : length t ≡ length s
   pub held : Held t d
   pub room : room_of t ≡ room_of s
