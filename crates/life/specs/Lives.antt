@@ -1,5 +1,5 @@
 -- Lists of keys and lives as plain data: look-ups, and what becomes of a list when one life changes.
-use Rattle.std.specs.Prelude.{Bool, cond, List, map, Option}
+use Rattle.std.specs.Prelude.{cond, List, map, Option}
 use Rattle.life.specs.ByKey as by_key
 use Rattle.life.specs.declared.key.Key.{Key}
 use Rattle.life.specs.declared.life.Life.{Life}
@@ -26,10 +26,7 @@ plain = map plain_pair
 abbrev pub look : KeyParts → Lives → Option LifeParts
 look = by_key.look same_key
 
--- no key twice: a test, so that a ghost field can say it
-abbrev pub distinct : Lives → Bool
-distinct = by_key.distinct same_key
-
+-- no key twice
 abbrev pub Unique : Lives → Type 0
 Unique = by_key.Unique same_key
 
