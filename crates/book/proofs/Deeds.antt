@@ -1,6 +1,7 @@
 -- The life held for a key is what the accepted lines of the key tell.
 use Rattle.std.proofs.Common.{◌≡◌, ℕ, Bool, true, false, cond, ◌⊎◌, List, [], ◌∷◌, ◌++◌, ℤ, Some, None, Option, sym, refl, ap, ◌∙◌, inl, inr, arith}
 use Rattle.std.specs.List.{AllByRecursion}
+use Rattle.std.specs.Option.{option_map}
 use Rattle.text.specs.declared.words.Action.{Action}
 use Rattle.text.specs.declared.words.Action.TheVariants.{New, Modify, Error, Cancel}
 use Rattle.line.specs.Lines.{Reported}
@@ -11,7 +12,7 @@ use Rattle.life.specs.Keys.{same_key}
 use Rattle.life.specs.Lives.{Lives, look}
 use Rattle.life.specs.Rules.{new_life, modified, cancelled}
 use Rattle.life.proofs.KeyOrder.{parts_same, parts_eq}
-use Rattle.life.proofs.Lives.{same_turned, look_erase, mapped, look_altered, look_apart}
+use Rattle.life.proofs.Lives.{same_turned, look_erase, look_altered, look_apart}
 use Rattle.book.specs.Book.{Book, empty_book, Call, AddEntity, AddContract, NameFile, Identify, Withdraw, Close, Judge, LookUp, Total, told_by, key_of, verdict, acted, applied, changed, after, end}
 use Rattle.book.specs.Laws.{a_line, subject, log, Deed, Did, deed, deeds, GoesOn, some_cancel, last_time, last_quantity, last_price, Tells, LifeLaw}
 
@@ -20,9 +21,9 @@ use Rattle.book.specs.Laws.{a_line, subject, log, Deed, Did, deed, deeds, GoesOn
 -- what an accepted line makes of the life of its key
 abbrev made : Action → ℕ → ℕ → Option ℤ → Option LifeParts → Option LifeParts
 made New t q p o = Some (new_life t q p)
-made Modify t q p o = mapped (modified t q p) o
+made Modify t q p o = option_map (modified t q p) o
 made Error t q p o = None
-made Cancel t q p o = mapped (cancelled t) o
+made Cancel t q p o = option_map (cancelled t) o
 
 abbrev traced : Option LifeParts → List Deed → Option LifeParts
 traced o [] = o

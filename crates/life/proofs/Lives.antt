@@ -1,6 +1,9 @@
 -- What look-ups in lists of lives become when one life changes.
 use Rattle.std.proofs.Common.{◌≡◌, ℕ, suc, ◌+◌, ◌≤◌, Bool, true, false, cond, [], ◌∷◌, length, Some, None, Option, sym, refl, ap, ◌∙◌, ⊎_elim, arith}
 use Rattle.std.proofs.lemmas.Bool.{cond-true, cond_both, cases_Bool}
+use Rattle.std.specs.Option.{option_map}
+-- passed on for crates above, which write `mapped`
+pub use Rattle.std.specs.Option.{option_map as mapped}
 use Rattle.life.specs.Parts.{KeyParts, LifeParts}
 use Rattle.life.specs.Keys.{same_key}
 use Rattle.life.proofs.KeyOrder.{parts_eq, parts_same}
@@ -38,11 +41,7 @@ same_rest = by_key.same_rest parts_eq
 
 -- ---- A life altered where it stands
 
-abbrev pub mapped : (LifeParts → LifeParts) → Option LifeParts → Option LifeParts
-mapped f None = None
-mapped f (Some l) = Some (f l)
-
-pub look_altered : (k : KeyParts) (f : LifeParts → LifeParts) (ps : Lives) → look k (altered k f ps) ≡ mapped f (look k ps)
+pub look_altered : (k : KeyParts) (f : LifeParts → LifeParts) (ps : Lives) → look k (altered k f ps) ≡ option_map f (look k ps)
 look_altered k f [] = refl
 look_altered k f (p ∷ ps) = grind (arith, look_altered k f ps)
 
@@ -75,7 +74,7 @@ cond_apart true x y z f g = f refl
 cond_apart false x y z f g = g refl
 
 -- what stands at each key when one life is altered
-pub look_altered_at : (j k : KeyParts) (f : LifeParts → LifeParts) (ps : Lives) → look j (altered k f ps) ≡ cond (same_key j k) (mapped f (look k ps)) (look j ps)
+pub look_altered_at : (j k : KeyParts) (f : LifeParts → LifeParts) (ps : Lives) → look j (altered k f ps) ≡ cond (same_key j k) (option_map f (look k ps)) (look j ps)
 look_altered_at j k f ps =
     cond_apart (same_key j k) _ _ _
     (λ e. ap (λ x. look x (altered k f ps)) (parts_eq j k e) ∙ look_altered k f ps)
