@@ -1,5 +1,5 @@
 -- What the laws of joining give of totals: one life more, less or altered; and that the order of a list does not count.
-use Rattle.std.proofs.Common.{◌≡◌, Bool, true, false, cond, [], ◌∷◌, ◌++◌, Some, None, Option, sym, refl, ap, ◌∙◌, subst, ⊎_elim}
+use Rattle.std.proofs.Common.{◌≡◌, Bool, cond, [], ◌∷◌, ◌++◌, Some, None, Option, sym, refl, ap, ◌∙◌, subst, ⊎_elim}
 use Rattle.std.proofs.lemmas.Bool.{cond-true, cases_Bool}
 use Rattle.std.proofs.lemmas.Option.{none-some}
 use Rattle.std.proofs.lemmas.Iterator.Adapters.{option_map_id}
@@ -10,11 +10,8 @@ use Rattle.life.specs.Keys.{same_key}
 use Rattle.life.specs.Lives.{Lives, look, Unique, Same, altered, erase}
 use Rattle.measure.specs.Totals.{share, total_of}
 use Rattle.life.proofs.KeyOrder.{parts_same, parts_eq}
+use Rattle.life.proofs.ByKey.{cond_same}
 use Rattle.life.proofs.Lives.{unique_parts, unique_erase, same_rest}
-
-cond_same : (b : Bool) (l : LifeParts) → cond b l l ≡ l
-cond_same true l = refl
-cond_same false l = refl
 
 altered_same : (k : KeyParts) (ps : Lives) → altered k (λ l. l) ps ≡ ps
 altered_same k [] = refl
