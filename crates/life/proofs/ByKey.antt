@@ -1,8 +1,9 @@
--- Look-ups in lists of keys with values, by a test that tells only equal keys one.
+-- Look-ups in lists of keys with a value each, by a test under which only equal keys are one.
 use Rattle.std.proofs.Common.{◌≡◌, Bool, true, false, cond, not, List, [], ◌∷◌, is_some, Some, None, Option, sym, refl, ap, ◌∙◌, subst, ⊎_elim, true≢false}
 use Rattle.std.proofs.lemmas.Bool.{and_from, and_parts, cond-true, cond-false, cond_both, cases_Bool}
 use Rattle.life.specs.ByKey as by_key
 
+-- a choice between two that are one
 pub cond_same : {A : Type 0} (b : Bool) (x : A) → cond b x x ≡ x
 cond_same true x = refl
 cond_same false x = refl

@@ -74,7 +74,8 @@ cond_apart true x y z f g = f refl
 cond_apart false x y z f g = g refl
 
 -- what stands at each key when one life is altered
-pub look_altered_at : (j k : KeyParts) (f : LifeParts → LifeParts) (ps : Lives) → look j (altered k f ps) ≡ cond (same_key j k) (option_map f (look k ps)) (look j ps)
+pub look_altered_at : (j k : KeyParts) (f : LifeParts → LifeParts) (ps : Lives) →
+    look j (altered k f ps) ≡ cond (same_key j k) (option_map f (look k ps)) (look j ps)
 look_altered_at j k f ps =
     cond_apart (same_key j k) _ _ _
     (λ e. ap (λ x. look x (altered k f ps)) (parts_eq j k e) ∙ look_altered k f ps)
