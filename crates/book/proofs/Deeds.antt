@@ -1,17 +1,18 @@
 -- The life held for a key is what the accepted lines of the key tell.
 use Rattle.std.proofs.Common.{◌≡◌, ℕ, Bool, true, false, cond, ◌⊎◌, List, [], ◌∷◌, ◌++◌, ℤ, Some, None, Option, sym, refl, ap, ◌∙◌, inl, inr, arith}
 use Rattle.std.specs.List.{AllByRecursion}
+use Rattle.std.specs.Option.{option_map}
 use Rattle.text.specs.declared.words.Action.{Action}
 use Rattle.text.specs.declared.words.Action.TheVariants.{New, Modify, Error, Cancel}
 use Rattle.line.specs.Lines.{Reported}
-use Rattle.life.specs.declared.life.State.{State}
 use Rattle.life.specs.declared.life.State.TheVariants.{Cancelled}
 use Rattle.life.specs.Parts.{KeyParts, LifeParts}
 use Rattle.life.specs.Keys.{same_key}
 use Rattle.life.specs.Lives.{Lives, look}
 use Rattle.life.specs.Rules.{new_life, modified, cancelled}
+use Rattle.life.proofs.ByKey.{cond_same}
 use Rattle.life.proofs.KeyOrder.{parts_same, parts_eq}
-use Rattle.life.proofs.Lives.{same_turned, look_erase, mapped, look_altered, look_apart}
+use Rattle.life.proofs.Lives.{same_turned, look_erase, look_altered, look_apart}
 use Rattle.book.specs.Book.{Book, empty_book, Call, AddEntity, AddContract, NameFile, Identify, Withdraw, Close, Judge, LookUp, Total, told_by, key_of, verdict, acted, applied, changed, after, end}
 use Rattle.book.specs.Laws.{a_line, subject, log, Deed, Did, deed, deeds, GoesOn, some_cancel, last_time, last_quantity, last_price, Tells, LifeLaw}
 
@@ -20,9 +21,9 @@ use Rattle.book.specs.Laws.{a_line, subject, log, Deed, Did, deed, deeds, GoesOn
 -- what an accepted line makes of the life of its key
 abbrev made : Action → ℕ → ℕ → Option ℤ → Option LifeParts → Option LifeParts
 made New t q p o = Some (new_life t q p)
-made Modify t q p o = mapped (modified t q p) o
+made Modify t q p o = option_map (modified t q p) o
 made Error t q p o = None
-made Cancel t q p o = mapped (cancelled t) o
+made Cancel t q p o = option_map (cancelled t) o
 
 abbrev traced : Option LifeParts → List Deed → Option LifeParts
 traced o [] = o
@@ -88,16 +89,12 @@ changed_by y ds = record {
   with_price = last_price y.with_price ds;
 }
 
-cond_both_same : (b : Bool) (x : State) → cond b x x ≡ x
-cond_both_same true x = refl
-cond_both_same false x = refl
-
 traced_changed : (ds : List Deed) (y : LifeParts) → AllByRecursion GoesOn ds → traced (Some y) ds ≡ Some (changed_by y ds)
 traced_changed [] y h = refl
 traced_changed (Did New t q p ∷ ds) y h = absurd h.0
 traced_changed (Did Modify t q p ∷ ds) y h = traced_changed ds _ h.1
 traced_changed (Did Error t q p ∷ ds) y h = absurd h.0
-traced_changed (Did Cancel t q p ∷ ds) y h = traced_changed ds _ h.1 ∙ rw (cond_both_same (some_cancel ds) Cancelled)
+traced_changed (Did Cancel t q p ∷ ds) y h = traced_changed ds _ h.1 ∙ rw (cond_same (some_cancel ds) Cancelled)
 
 traced_append : (xs ys : List Deed) (o : Option LifeParts) → traced o (xs ++ ys) ≡ traced (traced o xs) ys
 traced_append [] ys o = refl
@@ -152,7 +149,7 @@ to_told (Did a t q p ∷ ds) o life e = go a o (to_told ds (made a t q p o) life
     go New o (inr w) = inl (new_told t q p ds o life w)
     go Modify (Some z) (inr w) = inr (z, refl, (tt, w.2), cc (w.1, w.3))
     go Modify None (inr w) = absurd (grind (arith, w.1))
-    go Cancel (Some z) (inr w) = inr (z, refl, (tt, w.2), cc (w.1, w.3, cond_both_same (some_cancel ds) Cancelled))
+    go Cancel (Some z) (inr w) = inr (z, refl, (tt, w.2), cc (w.1, w.3, cond_same (some_cancel ds) Cancelled))
     go Cancel None (inr w) = absurd (grind (arith, w.1))
     go Error o (inr w) = absurd (grind (arith, w.1))
 

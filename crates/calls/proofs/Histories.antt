@@ -7,7 +7,8 @@ use Rattle.contract.specs.ContractList.{Told}
 use Rattle.life.specs.Parts.{KeyParts, LifeParts}
 use Rattle.life.specs.Keys.{same_key}
 use Rattle.life.specs.Lives.{Lives, look, altered, Unique, Same}
-use Rattle.life.proofs.Lives.{same_erase, look_altered_at, length_same, mapped}
+use Rattle.life.proofs.Lives.{same_erase, look_altered_at, length_same}
+use Rattle.std.specs.Option.{option_map}
 use Rattle.measure.proofs.Sums.{total_same}
 use Rattle.book.specs.Book.{Book, empty_book, Call, AddEntity, AddContract, NameFile, Identify, Withdraw, Close, Judge, LookUp, Total, Answer, told_by, key_of, verdict, acted, done, undone, changed, after, granted, answered, answer}
 use Rattle.book.specs.Laws.{Tidy}
@@ -21,8 +22,8 @@ use Rattle.calls.specs.Steps.{Step}
 same_altered : (k : KeyParts) (f : LifeParts → LifeParts) (ps qs : Lives) → Same ps qs → Same (altered k f ps) (altered k f qs)
 same_altered k f ps qs h j =
     look_altered_at j k f ps
-    ∙ ap (λ o. cond (same_key j k) (mapped f o) (look j ps)) (h k)
-    ∙ ap (cond (same_key j k) (mapped f (look k qs))) (h j)
+    ∙ ap (λ o. cond (same_key j k) (option_map f o) (look j ps)) (h k)
+    ∙ ap (cond (same_key j k) (option_map f (look k qs))) (h j)
     ∙ sym (look_altered_at j k f qs)
 
 same_acted : (a : Action) (k : KeyParts) (t q : ℕ) (p : Option ℤ) (ps qs : Lives) → Same ps qs → Same (acted a k t q p ps) (acted a k t q p qs)

@@ -48,20 +48,17 @@ impl<'s, S: Store, M: Measure> Checker<'s, S, M> {
         ensures follows { IfOk result (λ reply. Replies M.Measure self.old (call_said call.now) (reply_said reply) self.new) }
         ensures memory { OnErr result (Stays M.Measure self.old self.new) }
     {
-        match *call {
-            Call::AddEntity(code) => Ok(Reply::Answered(of_entity(self.add_entity(code)))),
-            Call::AddContract(text) => Ok(Reply::Answered(of_contract(self.add_contract(text)))),
-            Call::NameFile(name) => Ok(Reply::Answered(self.name_next(name)?)),
-            Call::Identify(number, code) => Ok(Reply::Answered(of_identifying(self.identify_at(
-                number, code,
-            )))),
-            Call::Withdraw(number) => Ok(Reply::Answered(of_ending(self.withdraw_at(number)))),
-            Call::Close(number) => Ok(Reply::Answered(of_ending(self.close_at(number)))),
-            Call::Judge(number, line) => Ok(Reply::Answered(of_judging(self.judge_at(
-                number, line,
-            )))),
-            Call::LookUp(line) => Ok(Reply::Answered(of_finding(self.look_up(line)))),
-            Call::Total => Ok(Reply::Total(copied(self.register.total()))),
-        }
+        let answer = match *call {
+            Call::AddEntity(code) => of_entity(self.add_entity(code)),
+            Call::AddContract(text) => of_contract(self.add_contract(text)),
+            Call::NameFile(name) => self.name_next(name)?,
+            Call::Identify(number, code) => of_identifying(self.identify_at(number, code)),
+            Call::Withdraw(number) => of_ending(self.withdraw_at(number)),
+            Call::Close(number) => of_ending(self.close_at(number)),
+            Call::Judge(number, line) => of_judging(self.judge_at(number, line)),
+            Call::LookUp(line) => of_finding(self.look_up(line)),
+            Call::Total => return Ok(Reply::Total(copied(self.register.total()))),
+        };
+        Ok(Reply::Answered(answer))
     }
 }

@@ -4,7 +4,8 @@ use crate::checker::Checker;
 use life::Store;
 use measure::Measure;
 
-// The checker, its answers (in a list apart from the totals, as the book gives them), of which those to calls for the total say 'accepted', and the totals that it was asked for, in their order.
+// The checker; its answers, of which those to calls for the total say 'accepted'; and the totals that it was asked for. Both are in the order of
+// the calls, in two lists, as the book gives them.
 #[derive(Drop)]
 pub struct CompletedRun<'s, S: Store, M: Measure> {
     pub checker: Checker<'s, S, M>,

@@ -43,8 +43,8 @@ whole_prop p q = λ i. record {
   large = Π_prop (λ _. Coded-set coded_ℕ _ _) p.large q.large i;
 }
 
-pub opened : {s : List Slot} {c : ℕ} → ∥ Whole s c ∥₁ → Whole s c
-opened h = ∥∥₁_elim h whole_prop (λ x. x)
+pub opened : {s : List Slot} {c : ℕ} → Held s c → Whole s c
+opened h = ∥∥₁_elim h.in_chains whole_prop (λ x. x)
 
 -- what a read gives
 pub at_read : (s : List Slot) (i : ℕ) (x : Slot) → i < length s → get_or s i x ≡ at s i
@@ -80,7 +80,7 @@ pairs_unique s (suc c) apart =
     unique_from ((at s (suc c)).key, (at s (suc c)).life) (pairs_of s c)
     (lookup_none s _ c (λ m z h e. apart m (suc c) z (omega arith) (omega arith) e)) (pairs_unique s c (λ i j z l h. apart i j z l (omega arith)))
 
--- ---- what the ghost fields of a store say
+-- ---- what the ghost field of a table says
 
 pub whole : (s : List Slot) (c : ℕ) → Sound s c → Whole s c
 whole s c h = record { allowed = λ _. h; large = λ l. absurd (omega (arith, h.small)) }

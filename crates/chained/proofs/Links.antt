@@ -4,7 +4,7 @@ use Rattle.std.proofs.lemmas.Bool.{cases_order, cases_eq, eq-eqb, ne_eqb}
 use Rattle.life.specs.declared.key.Key.{Key}
 use Rattle.life.specs.declared.life.Life.{Life}
 use Rattle.chained.specs.declared.slot.Slot.{Slot}
-use Rattle.chained.specs.Table.{at, chain_of, chain_at, pairs_of, re, Prev, Linked, Sound, Place, Rewired, Paired}
+use Rattle.chained.specs.Table.{at, chain_of, chain_at, pairs_of, re, Prev, Linked, HasChain, InUse, Sound, Place, Rewired, Paired}
 
 -- the same link under chains that agree below it
 pub prev_to : {K L : ℕ → ℕ} {b d top r t : ℕ} → Prev K b top r → d ≡ b → t ≡ r → ((m : ℕ) → m < top → L m ≡ K m) → Prev L d top t
@@ -126,7 +126,7 @@ re_else K i v m n = rw (ne_eqb m i n)
 
 -- where the link that passes over i stands
 module _ {K : ℕ → ℕ} {s : List Slot} {c b i p : ℕ} (k : Linked K s c) (at_p : Place s c b i p)
-    (low : 0 < b) (high : b < length s) (some : 0 < i) (within : i ≤ c) where
+    (chain : HasChain s c b) (slot : InUse s c i) where
   -- only the link at p passes over i
   only : (j : ℕ) → j ≤ c → i < j → K j ≡ b → (at s j).next ≤ i → j ≡ p
   only j h l e n =
@@ -135,7 +135,7 @@ module _ {K : ℕ → ℕ} {s : List Slot} {c b i p : ℕ} (k : Linked K s c) (a
       (⊎_elim
       (λ q. absurd ((k.nexts p (omega arith) at_p.within (omega (arith, at_p.chained K k (omega arith)))).gap j (omega (arith, at_p.later (omega arith))) q (e ∙ sym (at_p.chained K k (omega arith)))))
       (λ q. ⊎_elim
-      (λ z. absurd ((k.heads b low high).gap j (omega (arith, at_p.first z)) (omega arith) e))
+      (λ z. absurd ((k.heads b chain.low chain.high).gap j (omega (arith, at_p.first z)) (omega arith) e))
       (λ z. absurd ((k.nexts j (omega arith) h (omega arith)).gap p (omega (arith, at_p.above (omega arith))) q (at_p.chained K k (omega arith) ∙ sym e)))
       (cases_eq p 0)))
       (cases_order j p)
@@ -144,7 +144,7 @@ module _ {K : ℕ → ℕ} {s : List Slot} {c b i p : ℕ} (k : Linked K s c) (a
   only_head n =
       ⊎_elim
       (λ z. z)
-      (λ z. absurd ((k.heads b low high).gap p (omega (arith, at_p.above (omega arith))) (omega (arith, at_p.within)) (at_p.chained K k (omega arith))))
+      (λ z. absurd ((k.heads b chain.low chain.high).gap p (omega (arith, at_p.above (omega arith))) (omega (arith, at_p.within)) (at_p.chained K k (omega arith))))
       (cases_eq p 0)
 
   -- nothing of the chain b stands between i and the link
@@ -153,7 +153,7 @@ module _ {K : ℕ → ℕ} {s : List Slot} {c b i p : ℕ} (k : Linked K s c) (a
       (k.nexts p z at_p.within (omega (arith, at_p.chained K k z))).gap m (omega (arith, at_p.later z)) h (e ∙ sym (at_p.chained K k z))
 
   clear_head : p ≡ 0 → (m : ℕ) → i < m → m < c + 1 → K m ≡ b → ⊥
-  clear_head z m l h e = (k.heads b low high).gap m (omega (arith, at_p.first z)) h e
+  clear_head z m l h e = (k.heads b chain.low chain.high).gap m (omega (arith, at_p.first z)) h e
 
 -- i leaves its chain
 module _ {K : ℕ → ℕ} {i : ℕ} where
@@ -214,7 +214,7 @@ named : {K : ℕ → ℕ} {b d top r t : ℕ} → Prev K b top r → d ≡ b →
 named p e f = prev_to p e f (λ m _. refl)
 
 module _ {K : ℕ → ℕ} (s t : List Slot) (c b i p : ℕ) (k : Linked K s c) (at_p : Place s c b i p)
-    (low : 0 < b) (high : b < length s) (some : 0 < i) (within : i ≤ c) where
+    (chain : HasChain s c b) (slot : InUse s c i) where
   pub unlinked : K i ≡ b → Rewired s t b p (at s i).next → Linked (re K i 0) t c
   unlinked here w = record {
     nexts = λ j z h q.
@@ -226,10 +226,10 @@ module _ {K : ℕ → ℕ} (s t : List Slot) (c b i p : ℕ) (k : Linked K s c) 
         let pz : 0 < p = omega arith in
         let kp : K j ≡ b = ap K y ∙ at_p.chained K k pz in
         subst (λ x. Prev (re K i 0) (re K i 0 j) x (at t j).next) (sym y)
-        (named (skip (named (k.nexts i some within (omega arith)) (sym here) refl) low (at_p.above pz) (clear_next k at_p low high some within pz))
+        (named (skip (named (k.nexts i slot.some slot.within (omega arith)) (sym here) refl) chain.low (at_p.above pz) (clear_next k at_p chain slot pz))
         (e ∙ kp) (ap (λ x. (at t x).next) y ∙ w.next_at pz)))
         (λ y.
-        named (stay kj (omega arith) (λ f. y (only k at_p low high some within j h (omega (arith, kj.below)) (sym (kj.hit (omega arith)) ∙ ap K f ∙ here) (omega arith))))
+        named (stay kj (omega arith) (λ f. y (only k at_p chain slot j h (omega (arith, kj.below)) (sym (kj.hit (omega arith)) ∙ ap K f ∙ here) (omega arith))))
         e (w.next_else j z y))
         (cases_eq j p);
     heads = λ d z h.
@@ -237,9 +237,9 @@ module _ {K : ℕ → ℕ} (s t : List Slot) (c b i p : ℕ) (k : Linked K s c) 
         let kd = k.heads d z dh in
         ⊎_elim
         (λ y. ⊎_elim
-        (λ x. named (skip (named (k.nexts i some within (omega arith)) (sym here) refl) low (omega arith) (clear_head k at_p low high some within x))
+        (λ x. named (skip (named (k.nexts i slot.some slot.within (omega arith)) (sym here) refl) chain.low (omega arith) (clear_head k at_p chain slot x))
         y (ap (λ n. (at t n).head) y ∙ w.head_at x))
-        (λ x. named (stay kd z (λ f. x (only_head k at_p low high some within (omega (arith, ap (λ n. (at s n).head) y))))) refl (w.head_else d (λ q _. x q)))
+        (λ x. named (stay kd z (λ f. x (only_head k at_p chain slot (omega (arith, ap (λ n. (at s n).head) y))))) refl (w.head_else d (λ q _. x q)))
         (cases_eq p 0))
         (λ y. named (stay kd z (λ f. y (sym (kd.hit (omega arith)) ∙ ap K f ∙ here))) refl (w.head_else d (λ _ q. y q)))
         (cases_eq d b);
@@ -252,7 +252,7 @@ module _ {K : ℕ → ℕ} (s t : List Slot) (c b i p : ℕ) (k : Linked K s c) 
         ⊎_elim
         (λ y.
         subst (λ n. Prev (re K i b) (re K i b n) n (at t n).next) (sym y)
-        (named own_link (re_same K i b i refl) (x.next_else i some i≢p ∙ w.next_at some)))
+        (named own_link (re_same K i b i refl) (x.next_else i slot.some i≢p ∙ w.next_at slot.some)))
         (λ n.
         let e = re_else K i b j n in
         let kj = k.nexts j z h (omega arith) in
@@ -260,9 +260,9 @@ module _ {K : ℕ → ℕ} (s t : List Slot) (c b i p : ℕ) (k : Linked K s c) 
         (λ y.
         let pz : 0 < p = omega arith in
         subst (λ o. Prev (re K i b) (re K i b j) o (at t j).next) (sym y)
-        (named (join (at_p.above pz) (clear_next k at_p low high some within pz)) (e ∙ ap K y ∙ at_p.chained K k pz) (ap (λ o. (at t o).next) y ∙ x.next_at pz)))
+        (named (join (at_p.above pz) (clear_next k at_p chain slot pz)) (e ∙ ap K y ∙ at_p.chained K k pz) (ap (λ o. (at t o).next) y ∙ x.next_at pz)))
         (λ y.
-        named (pass kj (omega arith) none (λ f l g. y (only k at_p low high some within j h g f (omega arith))))
+        named (pass kj (omega arith) none (λ f l g. y (only k at_p chain slot j h g f (omega arith))))
         e (x.next_else j z y ∙ w.next_else j z n))
         (cases_eq j p))
         (cases_eq j i);
@@ -270,8 +270,8 @@ module _ {K : ℕ → ℕ} (s t : List Slot) (c b i p : ℕ) (k : Linked K s c) 
         let kd = k.heads d z (omega (arith, w.size, x.size)) in
         ⊎_elim
         (λ y. ⊎_elim
-        (λ o. named (join (omega arith) (clear_head k at_p low high some within o)) y (ap (λ n. (at t n).head) y ∙ x.head_at o))
-        (λ o. named (pass kd z none (λ _ l _. o (only_head k at_p low high some within (omega (arith, ap (λ n. (at s n).head) y))))) refl
+        (λ o. named (join (omega arith) (clear_head k at_p chain slot o)) y (ap (λ n. (at t n).head) y ∙ x.head_at o))
+        (λ o. named (pass kd z none (λ _ l _. o (only_head k at_p chain slot (omega (arith, ap (λ n. (at s n).head) y))))) refl
         (x.head_else d (λ q _. o q) ∙ w.head_else d (λ q _. omega arith)))
         (cases_eq p 0))
         (λ y. named (pass kd z none (λ q _ _. y q)) refl (x.head_else d (λ _ q. y q) ∙ w.head_else d (λ _ q. y q)))
@@ -285,7 +285,7 @@ module _ {K : ℕ → ℕ} (s t : List Slot) (c b i p : ℕ) (k : Linked K s c) 
       own_link =
           ⊎_elim
           (λ o.
-          let l = k.heads b low high in
+          let l = k.heads b chain.low chain.high in
           let n : (at s b).head ≡ i → ⊥ = λ e. omega (arith, l.hit (omega arith), ap K e) in
           named (own l (omega (arith, at_p.first o)) (omega arith)) refl (v-head o))
           (λ o.

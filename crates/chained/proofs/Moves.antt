@@ -1,5 +1,5 @@
 -- What is left when a slot is taken out and the last one moves to its place.
-use Rattle.std.proofs.Common.{◌≡◌, ℕ, zero, suc, ◌-◌, ◌<◌, ◌≤◌, ◌⊎◌, List, length, Some, None, sym, refl, ap, ◌∙◌, inl, inr, ⊎_elim, arith}
+use Rattle.std.proofs.Common.{◌≡◌, ℕ, zero, suc, ◌-◌, ◌<◌, ◌≤◌, cond, ◌⊎◌, List, length, Some, None, Option, sym, refl, ap, ◌∙◌, inl, inr, ⊎_elim, arith}
 use Rattle.std.proofs.lemmas.Bool.{cases_order, cases_eq, both_ways, cases_Bool}
 use Rattle.life.specs.declared.key.Key.{Key}
 use Rattle.life.specs.declared.life.Life.{Life}
@@ -7,10 +7,14 @@ use Rattle.chained.specs.declared.slot.Slot.{Slot}
 use Rattle.life.specs.Keys.{alike as same}
 use Rattle.life.specs.Pairs.{look as lookup}
 use Rattle.life.proofs.Lookups.{look_erase}
-use Rattle.chained.specs.Table.{Becomes, at, chain_of, chain_at, pairs_of, re, Linked, Sound, Paired, Kept, Spare, Drops}
+use Rattle.chained.specs.Table.{at, chain_of, chain_at, pairs_of, re, Linked, Sound, Paired, Kept, Spare, TakenFrom}
 use Rattle.chained.proofs.Facts.{same_true, same_self, lookup_none, held, whole, room_to, room_small}
 use Rattle.chained.proofs.Chains.{lookup_some}
 use Rattle.chained.proofs.Links.{prev_to, chain_same, re_same, re_else}
+
+-- ys has o at the key k, and at each other key what xs has
+abbrev pub Becomes : List (Key × Life) → List (Key × Life) → Key → Option Life → Type 0
+Becomes xs ys k o = (q : Key) → lookup q ys ≡ cond (same q k) o (lookup q xs)
 
 -- the last slot is in no chain
 pub shrink : {K L : ℕ → ℕ} {t : List Slot} {c : ℕ} → Linked K t c → 0 < c → K c ≡ 0 → ((m : ℕ) → m < c → L m ≡ K m) → Linked L t (c - 1)
@@ -185,7 +189,7 @@ module _ (s u v : List Slot) (c i d : ℕ) (old : Sound s c) (some : 0 < i) (les
 
 -- what is promised of a table from which a slot was taken
 pub drops : (s t : List Slot) (c i : ℕ) → Sound s c → 0 < i → i ≤ c → length t ≡ length s → Spare s t (c - 1) → Sound t (c - 1)
-    → Becomes (pairs_of s c) (pairs_of t (c - 1)) (at s i).key None → Drops s c t (c - 1) (at s i).key
+    → Becomes (pairs_of s c) (pairs_of t (c - 1)) (at s i).key None → TakenFrom s c t (c - 1) (at s i).key
 drops s t c i old some within size spare new gone = record {
   held = held (whole _ _ new);
   room = room_to _ _ size;

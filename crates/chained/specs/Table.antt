@@ -1,12 +1,11 @@
 -- A table of slots in which pairs are held and chained.
 use Rattle.std.specs.Prelude.{◌≡◌, ℕ, zero, suc, ◌+◌, ◌-◌, ◌%◌, ◌<◌, ◌≤◌, Bool, true, false, cond, List, [], ◌∷◌, length, is_ok, Some, None, Option, Result, ◌==◌, ◌≢◌, nat_le, slice_index_or}
 use Rattle.life.specs.declared.store.NoRoom.{NoRoom}
-use Rattle.life.specs.Keys.{alike}
 use Rattle.text.specs.Bytes.{between}
 use Rattle.text.specs.Texts.{text_of}
 use Rattle.life.specs.Fnv.{word_of}
 use Rattle.life.specs.Blank.{no_key, no_life}
-use Rattle.life.specs.Pairs.{look, erase, added, admits, distinct, Same}
+use Rattle.life.specs.Pairs.{erase, added, admits, distinct, Same}
 use Rattle.life.specs.declared.key.Key.{Key}
 use Rattle.life.specs.declared.life.Life.{Life}
 use Rattle.chained.specs.declared.slot.Slot.{Slot}
@@ -54,9 +53,18 @@ pub record Sound (s : List Slot) (c : ℕ) : Type 0 where
 abbrev pub re : (ℕ → ℕ) → ℕ → ℕ → ℕ → ℕ
 re K i v m = cond (m == i) v (K m)
 
--- some chains are linked
-abbrev pub Chains : List Slot → ℕ → Type 0
-Chains s c = (K : ℕ → ℕ) × Linked K s c
+-- the slots 1 to c stand in the table and are linked in some chains, and b is a chain of the table
+pub record HasChain (s : List Slot) (c b : ℕ) : Type 0 where
+  pub linked : (K : ℕ → ℕ) × Linked K s c
+  pub fits : c < length s
+  pub low : 0 < b
+  pub high : b < length s
+
+-- the slot i is one of the slots 1 to c, which are in use, and the table has not too many slots
+pub record InUse (s : List Slot) (c i : ℕ) : Type 0 where
+  pub small : length s ≤ 65536
+  pub some : 0 < i
+  pub within : i ≤ c
 
 -- r is the place of the key k among the slots 1 to c, or 0 if there is none
 pub record Sought (s : List Slot) (c : ℕ) (k : Key) (r : ℕ) : Type 0 where
@@ -109,10 +117,6 @@ pub record Kept (s t : List Slot) : Type 0 where
   pub keys : (m : ℕ) → (at t m).key ≡ (at s m).key
   pub lives : (m : ℕ) → (at t m).life ≡ (at s m).life
 
--- ys has o at the key k, and at each other key what xs has
-abbrev pub Becomes : List (Key × Life) → List (Key × Life) → Key → Option Life → Type 0
-Becomes xs ys k o = (q : Key) → look q ys ≡ cond (alike q k) o (look q xs)
-
 -- the lengths that are allowed
 abbrev pub allowed_length : ℕ → Bool
 allowed_length n = between 1 65536 n
@@ -158,16 +162,16 @@ pub record Held (s : List Slot) (c : ℕ) : Type 0 where
   pub apart : distinct (pairs_of s c) ≡ true
   pub within : length (pairs_of s c) ≤ room_of s
 
--- what `put` does
-pub record Puts (s : List Slot) (c : ℕ) (t : List Slot) (d : ℕ) (k : Key) (l : Life) (r : Result (Unit {0}) NoRoom) : Type 0 where
+-- what `put` does to a table s with c slots in use, which is then t with d; where the pair is refused nothing is written
+pub record PutInto (s : List Slot) (c : ℕ) (t : List Slot) (d : ℕ) (k : Key) (l : Life) (r : Result (Unit {0}) NoRoom) : Type 0 where
   pub held : Held t d
   pub room : room_of t ≡ room_of s
   pub fits : is_ok r ≡ admits (room_of s) k (pairs_of s c)
   pub holds : Same (pairs_of t d) (added (is_ok r) k l (pairs_of s c))
   pub leaves : Leaves s c t d (is_ok r ≡ false)
 
--- what `remove` does
-pub record Drops (s : List Slot) (c : ℕ) (t : List Slot) (d : ℕ) (k : Key) : Type 0 where
+-- what `remove` does; a table without room is not written
+pub record TakenFrom (s : List Slot) (c : ℕ) (t : List Slot) (d : ℕ) (k : Key) : Type 0 where
   pub held : Held t d
   pub room : room_of t ≡ room_of s
   pub holds : Same (pairs_of t d) (erase k (pairs_of s c))

@@ -1,14 +1,17 @@
 // A store over a lent table, by chains of slots.
-ghost use Rattle.std.specs.Prelude.{◌≡◌, false, [], is_ok, if◌then◌else◌, Some, None};
+ghost use Rattle.std.specs.Prelude.{◌≡◌, [], if◌then◌else◌, Some, None};
 ghost use Rattle.life.specs.Faults.{length_refused as refused};
-ghost use Rattle.life.specs.Pairs.{erase, added, admits, Same};
-ghost use Rattle.chained.specs.Table.{allowed_length as allowed, room_of as room_in, pairs_of as pairs_in, Emptied, Leaves};
+ghost use Rattle.chained.specs.Table.{allowed_length as allowed, Emptied};
+ghost use Rattle.chained.specs.Tables.{pairs_in, room_in, Puts, Drops};
 
 use crate::slot::Slot;
 use crate::table::{MOST, Table};
 use life::{Key, Life, NoRoom, Store, TableFault, check_length};
 
 // Two layers are a rule of the project: a plain table that holds the lent slice, and around it the store with its promises.
+// The store of `ordered` is alike but for names and two clauses, and both are written out: a trait of tables, over which one store could be
+// generic, would say each clause of `Store` again, and `new` and `empty` promise different things: here they end the chains, there they write
+// nothing.
 #[derive(Drop)]
 pub struct Chained<'t> {
     table: Table<'t>,
@@ -24,7 +27,7 @@ impl<'t> Chained<'t> {
 
     // An empty store over the table, whatever it held. A table whose length is not allowed has no room and is left alone.
     pub fn new(slots: &'t mut [Slot]) -> Chained<'t>
-        ensures none { pairs_in result.table.slots.now result.table.count ≡ [] }
+        ensures none { pairs_in result.table ≡ [] }
         ensures table { Emptied slots.old result.table.slots.now }
     {
         Chained {
@@ -33,14 +36,15 @@ impl<'t> Chained<'t> {
     }
 }
 
+// A method's own clauses stand in place of the trait's and have to give them: `Puts` and `Drops` do, and `empty` says `holds` again.
 impl<'t> Store for Chained<'t> {
-    ghost pairs = { λ s. pairs_in s.table.slots.now s.table.count };
+    ghost pairs = { λ s. pairs_in s.table };
 
-    ghost room = { λ s. room_in s.table.slots.now };
+    ghost room = { λ s. room_in s.table };
 
-    ghost unique = { λ s. s.table.apart };
+    ghost unique = { λ s. s.table.held.apart };
 
-    ghost within = { λ s. s.table.fits };
+    ghost within = { λ s. s.table.held.within };
 
     fn capacity(&self) -> usize {
         self.table.room()
@@ -51,25 +55,19 @@ impl<'t> Store for Chained<'t> {
     }
 
     fn put(&mut self, key: &Key, life: Life) -> Result<(), NoRoom>
-        ensures fits { is_ok result ≡ admits (room_in self.old.table.slots.now) key.now (pairs_in self.old.table.slots.now self.old.table.count) }
-        ensures holds { Same (pairs_in self.new.table.slots.now self.new.table.count) (added (is_ok result) key.now life (pairs_in self.old.table.slots.now self.old.table.count)) }
-        ensures keeps { room_in self.new.table.slots.now ≡ room_in self.old.table.slots.now }
-        ensures table { Leaves self.old.table.slots.now self.old.table.count self.new.table.slots.now self.new.table.count (is_ok result ≡ false) }
+        ensures table { Puts self.old.table self.new.table key.now life result }
     {
         self.table.put(key, life)
     }
 
     fn remove(&mut self, key: &Key)
-        ensures holds { Same (pairs_in self.new.table.slots.now self.new.table.count) (erase key.now (pairs_in self.old.table.slots.now self.old.table.count)) }
-        ensures keeps { room_in self.new.table.slots.now ≡ room_in self.old.table.slots.now }
-        ensures table { Leaves self.old.table.slots.now self.old.table.count self.new.table.slots.now self.new.table.count (room_in self.old.table.slots.now ≡ 0) }
+        ensures table { Drops self.old.table self.new.table key.now }
     {
         self.table.remove(key)
     }
 
     fn empty(&mut self)
-        ensures holds { pairs_in self.new.table.slots.now self.new.table.count ≡ [] }
-        ensures keeps { room_in self.new.table.slots.now ≡ room_in self.old.table.slots.now }
+        ensures holds { pairs_in self.new.table ≡ [] }
         ensures table { Emptied self.old.table.slots.now self.new.table.slots.now }
     {
         self.table.empty()

@@ -1,7 +1,7 @@
 // A table of slots: which slot has a key, and how a pair comes into its chain and out of it.
-ghost use Rattle.std.specs.Prelude.{◌≡◌, ℕ, ◌<◌, ◌≤◌, true, length, None, Ok, nat_le, unwrap_or};
-ghost use Rattle.life.specs.Pairs.{look, distinct};
-ghost use Rattle.chained.specs.Table.{room_of as room_in, at, chain_of, pairs_of, re, Linked, Chains, Sound, Spot, Place, Found, Rewired, Paired, Kept, Whole, Emptied, Puts, Drops};
+ghost use Rattle.std.specs.Prelude.{◌≡◌, ℕ, ◌<◌, ◌≤◌, length, None, Ok, nat_le, unwrap_or};
+ghost use Rattle.life.specs.Pairs.{look};
+ghost use Rattle.chained.specs.Table.{at, chain_of, re, Linked, HasChain, InUse, Sound, Spot, Place, Rewired, Paired, Kept, Emptied, Held};
 
 use crate::slot::Slot;
 use life::{Key, Life, NoRoom};
@@ -47,14 +47,12 @@ fn set_pair(slots: &mut [Slot], i: usize, key: Key, life: Life)
 
 // The place in the chain `b` whose link passes over `i`, or None for the head.
 fn place(slots: &[Slot], count: usize, b: usize, i: usize) -> Option<usize>
-    requires chains { Chains slots.now count }
-    requires fits { count < length slots.now }
-    requires low { 0 < b }
-    requires high { b < length slots.now }
+    requires { HasChain slots.now count b }
     ensures spot { Spot result (length slots.now) }
     ensures passes { Place slots.now count b i (unwrap_or result 0) }
 {
-    // A loop: it follows links from slot to slot, not a counted index.
+    // A loop: it follows links, and ends since they fall. To the library `std::iter::successors` is endless: `last` may be called on it only
+    // behind a `take`. Then a count ends the walk and not the links, and the check leaves open what this function ensures.
     let mut p = None;
     let mut j = slots[b].head as usize;
     while j > i {
@@ -66,13 +64,8 @@ fn place(slots: &[Slot], count: usize, b: usize, i: usize) -> Option<usize>
 
 // Takes the slot `i` out of the chain `b`.
 fn unlink(slots: &mut [Slot], count: usize, b: usize, i: usize)
-    requires chains { Chains slots.old count }
-    requires fits { count < length slots.old }
-    requires small { length slots.old ≤ 65536 }
-    requires low { 0 < b }
-    requires high { b < length slots.old }
-    requires some { 0 < i }
-    requires within { i ≤ count }
+    requires chain { HasChain slots.old count b }
+    requires slot { InUse slots.old count i }
     requires next { (at slots.old i).next ≤ 65536 }
     ensures kept { Kept slots.old slots.new }
     ensures linked { (K : ℕ → ℕ) → Linked K slots.old count → K i ≡ b → Linked (re K i 0) slots.new count }
@@ -84,13 +77,8 @@ fn unlink(slots: &mut [Slot], count: usize, b: usize, i: usize)
 
 // Puts the slot `i` into the chain `b`.
 fn link_in(slots: &mut [Slot], count: usize, b: usize, i: usize)
-    requires chains { Chains slots.old count }
-    requires fits { count < length slots.old }
-    requires small { length slots.old ≤ 65536 }
-    requires low { 0 < b }
-    requires high { b < length slots.old }
-    requires some { 0 < i }
-    requires within { i ≤ count }
+    requires chain { HasChain slots.old count b }
+    requires slot { InUse slots.old count i }
     ensures kept { Kept slots.old slots.new }
     ensures linked { (K : ℕ → ℕ) → Linked K slots.old count → K i ≡ 0 → Linked (re K i b) slots.new count }
 {
@@ -126,17 +114,18 @@ fn prepare(slots: &mut [Slot])
 }
 
 // A lent table, and how many of its slots are in use, each in the chain of its key. The table of `ordered` has methods of these
-// names, but works on its entries in another way: only `is_full` is the same.
+// names, but for `add` and `take_out`, which are `insert` and `delete` there, and works on its entries in another way: only
+// `is_full` is the same.
 #[derive(Drop)]
 pub(crate) struct Table<'t> {
     pub(crate) slots: &'t mut [Slot],
     pub(crate) count: usize,
-    ghost ok: { ∥ Whole slots.now count ∥₁ },
-    ghost apart: { distinct (pairs_of slots.now count) ≡ true },
-    ghost fits: { length (pairs_of slots.now count) ≤ room_in slots.now },
+    ghost held: { Held slots.now count },
 }
 
 impl<'t> Table<'t> {
+    ghost use Rattle.chained.specs.Tables.{pairs_in, room_in, Finds, Puts, Drops};
+
     // No slot is in use yet. A table with too many slots is left alone.
     pub(crate) fn new(slots: &'t mut [Slot]) -> Table<'t>
         ensures count { result.count ≡ 0 }
@@ -148,7 +137,7 @@ impl<'t> Table<'t> {
 
     // How many slots can be in use.
     pub(crate) fn room(&self) -> usize
-        ensures { result ≡ room_in self.now.slots.now }
+        ensures { result ≡ room_in self.now }
     {
         let n = self.slots.len();
         if n <= MOST { n.saturating_sub(1) } else { 0 }
@@ -156,14 +145,14 @@ impl<'t> Table<'t> {
 
     // The slot of the key, if it is held. A table whose length is not allowed holds none.
     fn place_of(&self, key: &Key) -> Option<usize>
-        ensures { Found self.now.slots.now self.now.count key.now result }
+        ensures { Finds self.now key.now result }
     {
         let slots = &*self.slots;
         let n = slots.len();
         if n < 2 || n > MOST {
             return None;
         }
-        // A loop: it follows links from slot to slot, not a counted index.
+        // A loop, as in `place`: `find` may not be called on `successors` either.
         let mut j = slots[chain(key, n)].head as usize;
         while j > 0 {
             let slot = &slots[j];
@@ -177,14 +166,14 @@ impl<'t> Table<'t> {
 
     // Whether no slot is free.
     fn is_full(&self) -> bool
-        ensures { result ≡ nat_le (room_in self.now.slots.now) self.now.count }
+        ensures { result ≡ nat_le (room_in self.now) self.now.count }
     {
         self.count >= self.room()
     }
 
     // The life at the key, if one is held.
     pub(crate) fn find(&self, key: &Key) -> Option<Life>
-        ensures { result ≡ look key.now (pairs_of self.now.slots.now self.now.count) }
+        ensures { result ≡ look key.now (pairs_in self.now) }
     {
         let i = self.place_of(key)?;
         Some(self.slots[i].life)
@@ -192,7 +181,7 @@ impl<'t> Table<'t> {
 
     // Puts the life at the key. Refused where the key is new and the table is full.
     pub(crate) fn put(&mut self, key: &Key, life: Life) -> Result<(), NoRoom>
-        ensures { Puts self.old.slots.now self.old.count self.new.slots.now self.new.count key.now life result }
+        ensures { Puts self.old self.new key.now life result }
     {
         if let Some(i) = self.place_of(key) {
             set_pair(self.slots, i, *key, life);
@@ -207,9 +196,9 @@ impl<'t> Table<'t> {
 
     // Takes the slot after the last one in use for a new key.
     fn add(&mut self, key: &Key, life: Life)
-        requires room { self.old.count < room_in self.old.slots.now }
-        requires fresh { Found self.old.slots.now self.old.count key.now None }
-        ensures { Puts self.old.slots.now self.old.count self.new.slots.now self.new.count key.now life (Ok tt) }
+        requires room { self.old.count < room_in self.old }
+        requires fresh { Finds self.old key.now None }
+        ensures { Puts self.old self.new key.now life (Ok tt) }
     {
         // Between the writes the invariant does not hold. They go through a reborrow, so that it has to hold again only at the end.
         let slots = &mut *self.slots;
@@ -224,7 +213,7 @@ impl<'t> Table<'t> {
 
     // Takes away the pair at the key, if there is one.
     pub(crate) fn remove(&mut self, key: &Key)
-        ensures { Drops self.old.slots.now self.old.count self.new.slots.now self.new.count key.now }
+        ensures { Drops self.old self.new key.now }
     {
         if let Some(i) = self.place_of(key) {
             self.take_out(i);
@@ -232,12 +221,13 @@ impl<'t> Table<'t> {
     }
 
     // Takes the slot `i` out of use. The last slot in use moves to its place.
-    // `sound` follows from the invariant where a slot is in use. It is a clause, since the bounds of the calls below rest on it.
+    // `sound` follows from the invariant where a slot is in use. It is a clause: without it nine more goals stay open, the bounds of
+    // `slots[count]` and what the calls below require, and seven where a lemma that opens the invariant is named for the whole function.
     fn take_out(&mut self, i: usize)
         requires sound { Sound self.old.slots.now self.old.count }
         requires low { 0 < i }
         requires high { i ≤ self.old.count }
-        ensures { Drops self.old.slots.now self.old.count self.new.slots.now self.new.count (at self.old.slots.now i).key }
+        ensures { Drops self.old self.new (at self.old.slots.now i).key }
     {
         // Through a reborrow, as in `add`.
         let slots = &mut *self.slots;
@@ -259,7 +249,7 @@ impl<'t> Table<'t> {
     // Takes every pair away. A table with too many slots is left alone.
     pub(crate) fn empty(&mut self)
         ensures count { self.new.count ≡ 0 }
-        ensures room { room_in self.new.slots.now ≡ room_in self.old.slots.now }
+        ensures room { room_in self.new ≡ room_in self.old }
         ensures table { Emptied self.old.slots.now self.new.slots.now }
     {
         prepare(self.slots);

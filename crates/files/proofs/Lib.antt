@@ -1,1 +1,2 @@
 pub mod NameCodes
+pub mod Places

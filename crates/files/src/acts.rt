@@ -4,7 +4,7 @@ ghost use Rattle.text.specs.Rows.{first_fit};
 ghost use Rattle.text.specs.Texts.{text_of};
 ghost use Rattle.filing.specs.Files.{named_file, at_stage, identifying_rows, withdrawing_rows, closing_rows, taking_rows};
 ghost use Rattle.files.specs.declared.stage.Stage.TheVariants.{Named, Identified};
-ghost use Rattle.files.specs.Files.{no_file, counted};
+ghost use Rattle.files.specs.Files.{counted};
 ghost use Rattle.files.specs.Held.{as_file, stage_of};
 ghost use Rattle.files.specs.Answers.{identify_refusal, place_refusal, take_refusal, receipt_of};
 
@@ -26,18 +26,6 @@ impl HeldFile {
         HeldFile {
             stage: Stage::Named,
             entity,
-            accepted: 0,
-            refused: 0,
-        }
-    }
-
-    // What stands where no file does.
-    pub(crate) fn none() -> HeldFile
-        ensures { as_file result ≡ no_file }
-    {
-        HeldFile {
-            stage: Stage::Ended,
-            entity: Text::empty(),
             accepted: 0,
             refused: 0,
         }

@@ -1,5 +1,5 @@
 // The list of files, and calls on a file by its number.
-ghost use Rattle.std.specs.Prelude.{◌≡◌, ◌+◌, ◌≤◌, [], length, IfOk, OnOk, slice_set};
+ghost use Rattle.std.specs.Prelude.{◌≡◌, ◌+◌, ◌≤◌, [], length, IfOk, OnOk, option_map, slice_get, slice_set};
 ghost use Rattle.text.specs.Rows.{first_fit};
 ghost use Rattle.files.specs.Answers.{identify_refusal, place_refusal, take_refusal, receipt_of};
 ghost use Rattle.filing.specs.Files.{identifying_rows, withdrawing_rows, closing_rows, taking_rows};
@@ -14,6 +14,7 @@ use crate::stage::Stage;
 use filing::EntityList;
 use std::alloc::{AllocError, Global};
 
+#[tactic(auto, using(crate::proofs::Places::file_of_read, crate::proofs::Places::nothing_put))]
 impl FileList {
     // A list with no file.
     pub fn new(heap: Global) -> FileList
@@ -40,11 +41,11 @@ impl FileList {
         self.files.reserve(more)
     }
 
-    // The file of a number.
-    fn file(&self, number: usize) -> HeldFile
-        ensures { as_file result ≡ file_of self.now.files number }
+    // The file of a number, if there is one.
+    fn file(&self, number: usize) -> Option<HeldFile>
+        ensures { option_map as_file result ≡ slice_get self.now.files number }
     {
-        self.files.get(number).copied().unwrap_or(HeldFile::none())
+        self.files.get(number).copied()
     }
 
     // Puts a file in the place of a number, if there is one.
@@ -67,7 +68,7 @@ impl FileList {
         ensures told { identify_refusal result ≡ first_fit identifying_rows (entities.now, file_of self.old.files number, code.now) }
         ensures list { self.new ≡ with_files (identified_in entities.now self.old.files number code.now) self.old }
     {
-        let file = self.file(number);
+        let file = self.file(number).ok_or(IdentifyFault::OutOfPlace)?;
         file.allows_identifying(entities, code)?;
         self.put(number, file.at_stage(Stage::Identified));
         Ok(())
@@ -80,7 +81,7 @@ impl FileList {
         ensures counts { IfOk result (λ receipt. receipt ≡ receipt_of (file_of self.old.files number)) }
         ensures list { self.new ≡ with_files (withdrawn_in self.old.files number) self.old }
     {
-        let file = self.file(number);
+        let file = self.file(number).ok_or(PlaceFault::OutOfPlace)?;
         file.stands_at(Stage::Named)?;
         self.put(number, file.at_stage(Stage::Ended));
         Ok(file.receipt())
@@ -92,7 +93,7 @@ impl FileList {
         ensures counts { IfOk result (λ receipt. receipt ≡ receipt_of (file_of self.old.files number)) }
         ensures list { self.new ≡ with_files (closed_in self.old.files number) self.old }
     {
-        let file = self.file(number);
+        let file = self.file(number).ok_or(PlaceFault::OutOfPlace)?;
         file.stands_at(Stage::Identified)?;
         self.put(number, file.at_stage(Stage::Ended));
         Ok(file.receipt())
@@ -102,14 +103,16 @@ impl FileList {
     pub fn takes(&self, number: usize) -> Result<(), TakeFault>
         ensures { take_refusal result ≡ first_fit taking_rows (file_of self.now.files number) }
     {
-        self.file(number).takes()
+        let file = self.file(number).ok_or(TakeFault::OutOfPlace)?;
+        file.takes()
     }
 
     // Counts a line judged in a file, where the file takes one.
     pub fn count_line(&mut self, number: usize, accepted: bool)
         ensures { self.new ≡ with_files (slice_set self.old.files number (counted accepted (file_of self.old.files number))) self.old }
     {
-        let file = self.file(number);
-        self.put(number, file.with_line(accepted));
+        if let Some(file) = self.file(number) {
+            self.put(number, file.with_line(accepted));
+        }
     }
 }

@@ -8,6 +8,7 @@ use Rattle.std.specs.Str.{bytes_eq}
 use Rattle.std.proofs.lemmas.Slice.Eq.{bytes_eq-Decides}
 use Rattle.std.proofs.lemmas.Bool.{and_from, and_parts, eqb-true, eq-eqb, cases_Bool}
 use Rattle.std.proofs.lemmas.Bool.Decides.{nat_tests}
+use Rattle.std.proofs.lemmas.Cmp.{tied_itself}
 use Rattle.text.specs.Texts.{text_of, lexical, number_order, order}
 use Rattle.text.proofs.Compared.{text_same, lex_order}
 use Rattle.text.specs.declared.words.Kind.{Kind}
@@ -195,13 +196,8 @@ compare_equal a b e =
     key_from a b (parts_from_list (key_parts a) (key_parts b)
     (lexical_equal order (lexical_equal number_order number_equal) (listed_parts (key_parts a)) (listed_parts (key_parts b)) e))
 
-own_mirror : (o : Ordering) → o ≡ ordering_reverse o → o ≡ Equal
-own_mirror Less h = absurd (true≢false (ap is_lt h))
-own_mirror Equal h = refl
-own_mirror Greater h = absurd (true≢false (sym (ap is_lt h)))
-
 compare_self : (a : Key) → rank a a ≡ Equal
-compare_self a = own_mirror (rank a a) (flip a a)
+compare_self a = sym (cmp_is a a) ∙ tied_itself total-law a
 
 is_less : (o : Ordering) → is_lt o ≡ true → o ≡ Less
 is_less Less h = refl

@@ -1,4 +1,5 @@
 pub mod KeyOrder
+pub mod ByKey
 pub mod Lives
 pub mod Lookups
 pub mod Plain

@@ -1,100 +1,45 @@
 -- What look-ups in lists of lives become when one life changes.
-use Rattle.std.proofs.Common.{◌≡◌, ℕ, suc, ◌+◌, ◌≤◌, Bool, true, false, cond, not, [], ◌∷◌, length, is_some, Some, None, Option, sym, refl, ap, ◌∙◌, subst, ⊎_elim, true≢false, arith}
-use Rattle.std.proofs.lemmas.Bool.{and_from, and_parts, cond-true, cond-false, cond_both, cases_Bool}
+use Rattle.std.proofs.Common.{◌≡◌, ℕ, suc, ◌+◌, ◌≤◌, Bool, true, false, cond, [], ◌∷◌, length, Some, None, Option, sym, refl, ap, ◌∙◌, ⊎_elim, arith}
+use Rattle.std.proofs.lemmas.Bool.{cond-true, cond_both, cases_Bool}
+use Rattle.std.specs.Option.{option_map}
 use Rattle.life.specs.Parts.{KeyParts, LifeParts}
 use Rattle.life.specs.Keys.{same_key}
 use Rattle.life.proofs.KeyOrder.{parts_eq, parts_same}
-use Rattle.life.specs.Lives.{Pair, Lives, look, distinct, Unique, Same, altered, erase}
+use Rattle.life.specs.Lives.{Pair, Lives, look, Unique, Same, altered, erase}
+use Rattle.life.proofs.ByKey as by_key
 
 pub same_turned : (k q : KeyParts) → same_key k q ≡ false → same_key q k ≡ false
 same_turned k q h = grind (arith, h, parts_eq q k, parts_same q)
 
 -- ---- Look-ups
 
-cond_same : {A : Type 0} (b : Bool) (x : A) → cond b x x ≡ x
-cond_same true x = refl
-cond_same false x = refl
-
-erase_same : (k : KeyParts) (ps : Lives) → look k (erase k ps) ≡ None
-erase_same k [] = refl
-erase_same k (p ∷ ps) =
-    cond_both (same_key k p.0) (erase k ps) (p ∷ erase k ps) (λ qs. look k qs ≡ None)
-    (λ _. erase_same k ps)
-    (λ e. cond-false _ _ _ e ∙ erase_same k ps)
-
-erase_other : (j k : KeyParts) → same_key j k ≡ false → (ps : Lives) → look j (erase k ps) ≡ look j ps
-erase_other j k h [] = refl
-erase_other j k h (p ∷ ps) =
-    cond_both (same_key k p.0) (erase k ps) (p ∷ erase k ps) (λ qs. look j qs ≡ look j (p ∷ ps))
-    (λ e. erase_other j k h ps ∙ sym (cond-false _ _ _ (subst (λ x. same_key j x ≡ false) (parts_eq k p.0 e) h)))
-    (λ e. ap (cond (same_key j p.0) (Some p.1)) (erase_other j k h ps))
-
 -- what stands at each key after an `erase`
 pub look_erase : (j k : KeyParts) (ps : Lives) → look j (erase k ps) ≡ cond (same_key j k) None (look j ps)
-look_erase j k ps =
-    ⊎_elim
-    (λ e. ap (λ x. look x (erase k ps)) (parts_eq j k e) ∙ erase_same k ps ∙ sym (cond-true _ _ _ e))
-    (λ e. erase_other j k e ps ∙ sym (cond-false _ _ _ e))
-    (cases_Bool (same_key j k))
+look_erase = by_key.look_erase parts_eq
 
 -- and after a life is put in
 pub look_put : (j k : KeyParts) (l : LifeParts) (ps : Lives) → look j ((k, l) ∷ erase k ps) ≡ cond (same_key j k) (Some l) (look j ps)
-look_put j k l ps =
-    ⊎_elim
-    (λ e. cond-true _ _ _ e ∙ sym (cond-true _ _ _ e))
-    (λ e. cond-false _ _ _ e ∙ erase_other j k e ps ∙ sym (cond-false _ _ _ e))
-    (cases_Bool (same_key j k))
-
-none_from : (o : Option LifeParts) → not (is_some o) ≡ true → o ≡ None
-none_from None e = refl
-none_from (Some l) e = absurd (true≢false (sym e))
+look_put = by_key.look_put parts_eq
 
 pub unique_parts : (p : Pair) (ps : Lives) → Unique (p ∷ ps) → (look p.0 ps ≡ None) × Unique ps
-unique_parts p ps u = let q = and_parts (not (is_some (look p.0 ps))) (distinct ps) u in (none_from (look p.0 ps) q.0, q.1)
+unique_parts = by_key.unique_parts parts_eq
 
 pub unique_from : (p : Pair) (ps : Lives) → look p.0 ps ≡ None → Unique ps → Unique (p ∷ ps)
-unique_from p ps e u = and_from _ _ (ap (λ o. not (is_some o)) e) u
+unique_from = by_key.unique_from parts_eq
 
 pub unique_erase : (k : KeyParts) (ps : Lives) → Unique ps → Unique (erase k ps)
-unique_erase k [] u = refl
-unique_erase k (p ∷ ps) u =
-    let q = unique_parts p ps u in
-    cond_both (same_key k p.0) (erase k ps) (p ∷ erase k ps) Unique
-    (λ _. unique_erase k ps q.1)
-    (λ _. unique_from p (erase k ps) (look_erase p.0 k ps ∙ ap (cond (same_key p.0 k) None) q.0 ∙ cond_same _ None) (unique_erase k ps q.1))
-
-pub unique_put : (k : KeyParts) (l : LifeParts) (ps : Lives) → Unique ps → Unique ((k, l) ∷ erase k ps)
-unique_put k l ps u = unique_from (k, l) (erase k ps) (erase_same k ps) (unique_erase k ps u)
+unique_erase = by_key.unique_erase parts_eq
 
 pub same_erase : (k : KeyParts) (ps qs : Lives) → Same ps qs → Same (erase k ps) (erase k qs)
-same_erase k ps qs h j = look_erase j k ps ∙ ap (cond (same_key j k) None) (h j) ∙ sym (look_erase j k qs)
-
--- nothing to take out
-pub same_absent : (k : KeyParts) (ps : Lives) → look k ps ≡ None → Same ps (erase k ps)
-same_absent k ps h j =
-    ⊎_elim
-    (λ e. ap (λ x. look x ps) (parts_eq j k e) ∙ h ∙ sym (look_erase j k ps ∙ cond-true _ _ _ e))
-    (λ e. sym (look_erase j k ps ∙ cond-false _ _ _ e))
-    (cases_Bool (same_key j k))
-
-pub same_put : (k : KeyParts) (l : LifeParts) (ps qs : Lives) → Same ps qs → Same ((k, l) ∷ erase k ps) ((k, l) ∷ erase k qs)
-same_put k l ps qs h j = look_put j k l ps ∙ ap (cond (same_key j k) (Some l)) (h j) ∙ sym (look_put j k l qs)
+same_erase = by_key.same_erase parts_eq
 
 -- what is left of two lists when the first pair of one is taken out of both
 pub same_rest : (p : Pair) (ps qs : Lives) → Unique (p ∷ ps) → Same (p ∷ ps) qs → Same ps (erase p.0 qs)
-same_rest p ps qs u h j =
-    ⊎_elim
-    (λ e. ap (λ x. look x ps) (parts_eq j p.0 e) ∙ (unique_parts p ps u).0 ∙ sym (look_erase j p.0 qs ∙ cond-true _ _ _ e))
-    (λ e. sym (cond-false _ _ _ e) ∙ h j ∙ sym (look_erase j p.0 qs ∙ cond-false _ _ _ e))
-    (cases_Bool (same_key j p.0))
+same_rest = by_key.same_rest parts_eq
 
 -- ---- A life altered where it stands
 
-abbrev pub mapped : (LifeParts → LifeParts) → Option LifeParts → Option LifeParts
-mapped f None = None
-mapped f (Some l) = Some (f l)
-
-pub look_altered : (k : KeyParts) (f : LifeParts → LifeParts) (ps : Lives) → look k (altered k f ps) ≡ mapped f (look k ps)
+pub look_altered : (k : KeyParts) (f : LifeParts → LifeParts) (ps : Lives) → look k (altered k f ps) ≡ option_map f (look k ps)
 look_altered k f [] = refl
 look_altered k f (p ∷ ps) = grind (arith, look_altered k f ps)
 
@@ -127,7 +72,8 @@ cond_apart true x y z f g = f refl
 cond_apart false x y z f g = g refl
 
 -- what stands at each key when one life is altered
-pub look_altered_at : (j k : KeyParts) (f : LifeParts → LifeParts) (ps : Lives) → look j (altered k f ps) ≡ cond (same_key j k) (mapped f (look k ps)) (look j ps)
+pub look_altered_at : (j k : KeyParts) (f : LifeParts → LifeParts) (ps : Lives) →
+    look j (altered k f ps) ≡ cond (same_key j k) (option_map f (look k ps)) (look j ps)
 look_altered_at j k f ps =
     cond_apart (same_key j k) _ _ _
     (λ e. ap (λ x. look x (altered k f ps)) (parts_eq j k e) ∙ look_altered k f ps)

@@ -1,7 +1,8 @@
 -- The pairs of a store as plain data: the same look-ups, and what they become when the store changes.
-use Rattle.std.proofs.Common.{◌≡◌, ℕ, Bool, true, false, cond, List, [], ◌∷◌, length, Some, None, Option, sym, refl, ap, ◌∙◌, ⊎_elim, arith}
+use Rattle.std.proofs.Common.{◌≡◌, ℕ, ◌≤◌, Bool, true, false, cond, List, [], ◌∷◌, length, Some, None, Option, sym, refl, ap, ◌∙◌, ⊎_elim, arith}
 use lib.ListN.{length-map}
 use Rattle.std.proofs.lemmas.Bool.{cond-false, cases_Bool}
+use Rattle.std.specs.Option.{option_map}
 use Rattle.life.specs.declared.key.Key.{Key}
 use Rattle.life.specs.declared.life.Life.{Life}
 use Rattle.life.specs.Acts.{life_in}
@@ -11,7 +12,7 @@ use Rattle.life.specs.Parts.{KeyParts, LifeParts, key_parts, life_parts}
 use Rattle.life.specs.Lives.{Lives, plain_pair, plain, look, Unique, Same, altered, erase}
 use Rattle.life.proofs.KeyOrder.{parts_eq}
 use Rattle.life.proofs.Lookups as stored
-use Rattle.life.proofs.Lives.{look_erase, look_put, mapped, look_altered_at, unique_from, length_same}
+use Rattle.life.proofs.Lives.{look_erase, look_put, look_altered_at, unique_from}
 
 -- ---- Look-ups
 
@@ -41,6 +42,9 @@ plain_unique [] u = refl
 plain_unique (p ∷ xs) u =
     let q = stored.unique_parts p xs u in
     unique_from (plain_pair p) (plain xs) (plain_look p.0 xs ∙ ap life_in q.0) (plain_unique xs q.1)
+
+pub plain_fits : (xs : List (Key × Life)) (room : ℕ) → length xs ≤ room → length (plain xs) ≤ room
+plain_fits xs room h = omega (arith, length-map xs plain_pair)
 
 -- a key that has a life in plain data is one of the store's
 held_key : (j : KeyParts) (l : LifeParts) (xs : List (Key × Life)) → look j (plain xs) ≡ Some l → (k : Key) × (j ≡ key_parts k)
@@ -83,7 +87,7 @@ module _ (k : Key) (xs xs' : List (Key × Life)) (ls : Lives) (s : Same (plain x
   pub plain_altered : (old : LifeParts) (f : LifeParts → LifeParts) (l : Life) → look (key_parts k) ls ≡ Some old → f old ≡ life_parts l → pairs.Same xs' ((k, l) ∷ pairs.erase k xs) → Same (plain xs') (altered (key_parts k) f ls)
   plain_altered old f l found is h j =
       put_at l h j
-      ∙ ap (λ o. cond (same_key j (key_parts k)) o (look j ls)) (sym (ap (mapped f) found ∙ ap Some is))
+      ∙ ap (λ o. cond (same_key j (key_parts k)) o (look j ls)) (sym (ap (option_map f) found ∙ ap Some is))
       ∙ sym (look_altered_at j (key_parts k) f ls)
 
   -- a life goes
@@ -94,7 +98,3 @@ module _ (k : Key) (xs xs' : List (Key × Life)) (ls : Lives) (s : Same (plain x
       ∙ look_erase j (key_parts k) (plain xs)
       ∙ ap (cond (same_key j (key_parts k)) None) (s j)
       ∙ sym (look_erase j (key_parts k) ls)
-
--- as many lives as pairs
-pub plain_length : (xs : List (Key × Life)) (ls : Lives) → pairs.Unique xs → Unique ls → Same (plain xs) ls → length ls ≡ length xs
-plain_length xs ls u w s = sym (length_same (plain xs) ls (plain_unique xs u) w s) ∙ length-map xs plain_pair

@@ -1,5 +1,6 @@
 -- Lists of keys and lives as plain data: look-ups, and what becomes of a list when one life changes.
-use Rattle.std.specs.Prelude.{◌≡◌, Bool, true, cond, not, ◌&&◌, List, [], ◌∷◌, map, is_some, Some, None, Option}
+use Rattle.std.specs.Prelude.{cond, List, map, Option}
+use Rattle.life.specs.ByKey as by_key
 use Rattle.life.specs.declared.key.Key.{Key}
 use Rattle.life.specs.declared.life.Life.{Life}
 use Rattle.life.specs.Keys.{same_key}
@@ -23,20 +24,15 @@ plain = map plain_pair
 
 -- the life of a key
 abbrev pub look : KeyParts → Lives → Option LifeParts
-look k [] = None
-look k (p ∷ ps) = cond (same_key k p.0) (Some p.1) (look k ps)
+look = by_key.look same_key
 
--- no key twice: a test, so that a ghost field can say it
-abbrev pub distinct : Lives → Bool
-distinct [] = true
-distinct (p ∷ ps) = not (is_some (look p.0 ps)) && distinct ps
-
+-- no key twice
 abbrev pub Unique : Lives → Type 0
-Unique ps = distinct ps ≡ true
+Unique = by_key.Unique same_key
 
 -- the same lives in whatever order: at each key the same one or none
 abbrev pub Same : Lives → Lives → Type 0
-Same ps qs = (k : KeyParts) → look k ps ≡ look k qs
+Same = by_key.Same same_key
 
 -- ---- Changes
 
@@ -46,5 +42,4 @@ altered k f = map (λ p. (p.0, cond (same_key k p.0) (f p.1) p.1))
 
 -- the pairs at every other key
 abbrev pub erase : KeyParts → Lives → Lives
-erase k [] = []
-erase k (p ∷ ps) = cond (same_key k p.0) (erase k ps) (p ∷ erase k ps)
+erase = by_key.erase same_key

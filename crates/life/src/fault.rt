@@ -20,6 +20,7 @@ pub enum LifeFault {
     Earlier,
 }
 
+// Its own methods, as each fault has: a trait over faults would say each contract again in its definitions, and each body again in an impl.
 impl LifeFault {
     // The published number.
     pub fn number(&self) -> u8

@@ -55,8 +55,8 @@ impl Key {
         ensures is { result ≡ rank_of (parts self.now) (parts other.now) }
         ensures strict { Strict }
     {
-        // Written out, the kinds by a test. The bar is the time of a find in the form before (docs/FIGURES.md): with the derived `cmp`, or a chain
-        // from the kind on, a find takes 187 to 189 ns for 169.
+        // Written out, the kinds by a test. The bar is the time of a find in the form before, 158 to 167 ns (docs/FIGURES.md): here a find takes 161,
+        // with the derived `cmp` 169.
         if self.kind != other.kind {
             return self.kind.cmp(&other.kind);
         }

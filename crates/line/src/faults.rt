@@ -12,6 +12,7 @@ pub enum ReadFault {
     Form { field: u8, at: usize },
 }
 
+// Its own methods, as each fault has: a trait over faults would say each contract again in its definitions, and each body again in an impl.
 impl ReadFault {
     // The published number.
     pub fn number(&self) -> u16

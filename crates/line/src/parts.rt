@@ -5,8 +5,8 @@ ghost use Rattle.line.specs.Reads.{seen, bytes_of, number_of, signed_of, names_o
 
 use text::Names;
 
-// A rule of the project: each case holds the bytes that it was read from and their offset, so that whoever holds a part
-// can point at its field.
+// A rule of the project: each case holds the bytes that it was read from, of which a blank has none, and their offset, so that whoever holds a
+// part can point at its field.
 #[derive(Clone, Copy)]
 pub enum Part<'a> {
     Blank {

@@ -1,6 +1,7 @@
 -- What stands in the cells of a sheet.
-use Rattle.std.proofs.Common.{◌≡◌, ℕ, zero, suc, ◌+◌, ◌-◌, ◌%◌, ◌^◌, ◌<◌, ◌≤◌, Bool, true, false, cond, eqb, List, length, get_or, set, replicate, ℤ, pos, neg_ℤ, sym, refl, ap, ◌∙◌, ⊎_elim, arith, get_or-set_other, get_or-set_same}
+use Rattle.std.proofs.Common.{◌≡◌, ℕ, zero, suc, ◌+◌, ◌-◌, ◌%◌, ◌^◌, ◌<◌, ◌≤◌, Bool, true, false, cond, eqb, get_or, set, replicate, ℤ, pos, neg_ℤ, sym, refl, ap, ◌∙◌, ⊎_elim, arith, get_or-set_other}
 use lib.ListN.{get_or-replicate, length-replicate}
+use Rattle.std.proofs.lemmas.Grind.{get_or-set_at}
 use Rattle.std.proofs.lemmas.List.{get_or_past}
 use Rattle.std.proofs.lemmas.Bool.{cases_eq, cases_lt, eq-eqb, ne_eqb}
 use Rattle.life.specs.Parts.{KeyParts, LifeParts}
@@ -29,9 +30,6 @@ zeros_fit n =
 pub cell_past : (x : Sheet) (n : ℕ) → 64 ≤ n → cell x n ≡ 0
 cell_past x n h = get_or_past x.cells n 0 (omega (arith, x.whole))
 
-set_at_same : (xs : List ℕ) (at v n : ℕ) → at < length xs → n ≡ at → get_or (set xs at v) n 0 ≡ v
-set_at_same xs at v n h e = ap (λ i. get_or (set xs at v) i 0) e ∙ get_or-set_same xs at v 0 h
-
 cell_one : (at v n : ℕ) → n < 64 → cell (one_cell at v) n ≡ cond (eqb n at) v 0 % 2 ^ 64
 cell_one at v n h = cell_sheet (λ i. cond (eqb i at) v 0) n h
 
@@ -48,7 +46,7 @@ raised x y at v h e =
     ap (λ l. get_or l n 0) e ∙ ⊎_elim
     (λ same.
     let old : cell x n ≡ cell x at = ap (cell x) same in
-    set_at_same x.cells at _ n (omega (arith, x.whole)) same ∙ omega (arith, one_here at v n q same))
+    get_or-set_at x.cells at n _ 0 same (omega (arith, x.whole)) ∙ omega (arith, one_here at v n q same))
     (λ other. get_or-set_other x.cells at n _ 0 other ∙ omega (arith, x.fit n, one_elsewhere at v n q other))
     (cases_eq n at))
 

@@ -1,28 +1,17 @@
 -- What the laws of joining give of totals: one life more, less or altered; and that the order of a list does not count.
-use Rattle.std.proofs.Common.{◌≡◌, ℕ, Bool, true, false, cond, [], ◌∷◌, ◌++◌, Some, None, Option, sym, refl, ap, ◌∙◌, subst, ⊎_elim, arith}
+use Rattle.std.proofs.Common.{◌≡◌, Bool, cond, [], ◌∷◌, ◌++◌, Some, None, Option, sym, refl, ap, ◌∙◌, subst, ⊎_elim}
 use Rattle.std.proofs.lemmas.Bool.{cond-true, cases_Bool}
+use Rattle.std.proofs.lemmas.Option.{none-some}
+use Rattle.std.proofs.lemmas.Iterator.Adapters.{option_map_id}
+use Rattle.std.specs.Option.{option_map}
 use Rattle.life.specs.Parts.{KeyParts, LifeParts}
 use Rattle.measure.specs.Group.{Group}
 use Rattle.life.specs.Keys.{same_key}
 use Rattle.life.specs.Lives.{Lives, look, Unique, Same, altered, erase}
 use Rattle.measure.specs.Totals.{share, total_of}
 use Rattle.life.proofs.KeyOrder.{parts_same, parts_eq}
+use Rattle.life.proofs.ByKey.{cond_same}
 use Rattle.life.proofs.Lives.{unique_parts, unique_erase, same_rest}
-
-none_some : (l : LifeParts) → None ≡ Some l → ⊥
-none_some l e = let z : ◌≡◌ {A = ℕ} 0 1 = cc in omega arith
-
-abbrev mapped : (LifeParts → LifeParts) → Option LifeParts → Option LifeParts
-mapped f None = None
-mapped f (Some l) = Some (f l)
-
-mapped_same : (o : Option LifeParts) → mapped (λ l. l) o ≡ o
-mapped_same None = refl
-mapped_same (Some l) = refl
-
-cond_same : (b : Bool) (l : LifeParts) → cond b l l ≡ l
-cond_same true l = refl
-cond_same false l = refl
 
 altered_same : (k : KeyParts) (ps : Lives) → altered k (λ l. l) ps ≡ ps
 altered_same k [] = refl
@@ -60,14 +49,14 @@ module _ {V : Type 0} {nil : V} {joined : V → V → V} {inverse : V → V} (G 
 
     -- the life of a key altered: its new share, and all others
     total_altered : (k : KeyParts) (f : LifeParts → LifeParts) (ps : Lives) → Unique ps →
-        total (altered k f ps) ≡ joined (value k (mapped f (look k ps))) (total (erase k ps))
+        total (altered k f ps) ≡ joined (value k (option_map f (look k ps))) (total (erase k ps))
     total_altered k f [] u = sym (G.unit nil)
     total_altered k f (p ∷ ps) u =
         let once = unique_parts p ps u in
-        let rest : total (altered k f ps) ≡ joined (value k (mapped f (look k ps))) (total (erase k ps)) = total_altered k f ps once.1 in
+        let rest : total (altered k f ps) ≡ joined (value k (option_map f (look k ps))) (total (erase k ps)) = total_altered k f ps once.1 in
         let Goal : Bool → Type 0 = λ b.
         joined (share nil weight p.0 (cond b (f p.1) p.1)) (total (altered k f ps))
-        ≡ joined (value k (mapped f (cond b (Some p.1) (look k ps)))) (total (cond b (erase k ps) (p ∷ erase k ps))) in
+        ≡ joined (value k (option_map f (cond b (Some p.1) (look k ps)))) (total (cond b (erase k ps) (p ∷ erase k ps))) in
         ⊎_elim
         (λ e.
         let here : k ≡ p.0 = parts_eq k p.0 e in
@@ -75,7 +64,7 @@ module _ {V : Type 0} {nil : V} {joined : V → V → V} {inverse : V → V} (G 
         subst Goal (sym e)
         (ap (λ x. joined (share nil weight x (f p.1)) (total (altered k f ps))) (sym here)
         ∙ ap (joined (share nil weight k (f p.1)))
-        (rest ∙ ap (λ o. joined (value k (mapped f o)) (total (erase k ps))) gone ∙ G.unit _)))
+        (rest ∙ ap (λ o. joined (value k (option_map f o)) (total (erase k ps))) gone ∙ G.unit _)))
         (λ e. subst Goal (sym e) (ap (joined (share nil weight p.0 p.1)) rest ∙ past _ _ _))
         (cases_Bool (same_key k p.0))
 
@@ -84,7 +73,7 @@ module _ {V : Type 0} {nil : V} {joined : V → V → V} {inverse : V → V} (G 
     total_split k ps u =
         ap total (sym (altered_same k ps))
         ∙ total_altered k (λ l. l) ps u
-        ∙ ap (λ o. joined (value k o) (total (erase k ps))) (mapped_same (look k ps))
+        ∙ ap (λ o. joined (value k o) (total (erase k ps))) (option_map_id (look k ps))
 
     -- the life of a key goes
     pub total_go : (k : KeyParts) (l : LifeParts) (ps : Lives) → Unique ps → look k ps ≡ Some l →
@@ -100,13 +89,13 @@ module _ {V : Type 0} {nil : V} {joined : V → V → V} {inverse : V → V} (G 
     total_replace k old new f ps u e is =
         ap (λ t. joined t (share nil weight k new)) (total_go k old ps u e)
         ∙ G.comm _ _
-        ∙ ap (λ o. joined (value k o) (total (erase k ps))) (ap Some (sym is) ∙ ap (mapped f) (sym e))
+        ∙ ap (λ o. joined (value k o) (total (erase k ps))) (ap Some (sym is) ∙ ap (option_map f) (sym e))
         ∙ sym (total_altered k f ps u)
 
     -- the order of the list does not count
     pub total_same : (ps qs : Lives) → Unique ps → Unique qs → Same ps qs → total ps ≡ total qs
     total_same [] [] u w h = refl
-    total_same [] (q ∷ qs) u w h = absurd (none_some q.1 (h q.0 ∙ cond-true _ _ _ (parts_same q.0)))
+    total_same [] (q ∷ qs) u w h = absurd (none-some q.1 (h q.0 ∙ cond-true _ _ _ (parts_same q.0)))
     total_same (p ∷ ps) qs u w h =
         let there : look p.0 qs ≡ Some p.1 = sym (h p.0) ∙ cond-true _ _ _ (parts_same p.0) in
         let rest = total_same ps (erase p.0 qs) (unique_parts p ps u).1 (unique_erase p.0 qs w) (same_rest p ps qs u h) in

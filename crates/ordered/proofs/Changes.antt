@@ -7,8 +7,23 @@ use Rattle.life.specs.declared.life.Life.{Life}
 use Rattle.life.specs.Keys.{Before}
 use Rattle.life.proofs.Lookups.{same_absent}
 use Rattle.ordered.specs.declared.entry.Entry.{Entry}
-use Rattle.ordered.specs.Table.{at, room_of, pairs_of, Sound, Sought, Inserted, Deleted, Puts, Drops}
+use Rattle.ordered.specs.Table.{at, room_of, pairs_of, Sound, Sought, PutInto, TakenFrom}
 use Rattle.ordered.proofs.Rows.{held, at_same, at_other, room_within, room_to, fits_to, rise, before_apart, one_place, look_none, look_some, pairs_length, puts_in, takes_out}
+
+-- t is s with one entry more at i
+pub record Inserted (s t : List Entry) (c i : ℕ) (e : Entry) : Type 0 where
+  pub size : length t ≡ length s
+  pub low : (m : ℕ) → m < i → at t m ≡ at s m
+  pub here : at t i ≡ e
+  pub high : (m : ℕ) → i < m → m ≤ c → at t m ≡ at s (m - 1)
+  pub rest : (m : ℕ) → c < m → at t m ≡ at s m
+
+-- t is s without the entry at i
+pub record Deleted (s t : List Entry) (c i : ℕ) : Type 0 where
+  pub size : length t ≡ length s
+  pub low : (m : ℕ) → m < i → at t m ≡ at s m
+  pub high : (m : ℕ) → i ≤ m → m + 1 < c → at t m ≡ at s (m + 1)
+  pub rest : (m : ℕ) → c ≤ m + 1 → at t m ≡ at s m
 
 key_of : (e f : Entry) → e ≡ f → e.key ≡ f.key
 key_of e f p = ap (λ (x : Entry). x.key) p
@@ -19,10 +34,7 @@ absent s c k i h m l e =
     ⊎_elim (λ q. before_apart _ _ (h.1 m q) e) (λ q. before_apart _ _ (h.2 m q l) (sym e)) (cases_lt m i)
 
 module _ (s : List Entry) (c i : ℕ) (k : Key) (l : Life) (old : Sound s c) (low : i < c) (here : (at s i).key ≡ k) where
-  e : Entry
-  e = record { key = k; life = l }
-
-  pub replaced : Puts s c (set s i (record { key = k; life = l })) c k l (Ok tt)
+  pub replaced : PutInto s c (set s i (record { key = k; life = l })) c k l (Ok tt)
   replaced =
       let t : List Entry = set s i (record { key = k; life = l }) in
       let w : i < length s = omega (arith, room_within s, old.fits) in
@@ -96,7 +108,7 @@ module _ (s t : List Entry) (c i : ℕ) (k : Key) (l : Life) (old : Sound s c) (
       (λ q. (n - 1, omega arith, w.high n q (omega arith))))
       (cases_order n i)
 
-  pub inserted : Puts s c t (c + 1) k l (Ok tt)
+  pub inserted : PutInto s c t (c + 1) k l (Ok tt)
   inserted = record {
     size = w.size;
     held = held ins_sound;
@@ -108,7 +120,8 @@ module _ (s t : List Entry) (c i : ℕ) (k : Key) (l : Life) (old : Sound s c) (
     rest = λ m h. w.rest m (omega arith);
   }
 
-pub refused : (s : List Entry) (c i : ℕ) (k : Key) (l : Life) → Sound s c → room_of s ≤ c → Sought s c k (Err i) → Puts s c s c k l (Err (record {}))
+pub refused : (s : List Entry) (c i : ℕ) (k : Key) (l : Life) → Sound s c → room_of s ≤ c → Sought s c k (Err i)
+    → PutInto s c s c k l (Err (record {}))
 refused s c i k l old full place = record {
   size = refl;
   held = held old;
@@ -158,7 +171,7 @@ module _ (s t : List Entry) (c i : ℕ) (k : Key) (old : Sound s c) (low : i < c
       (λ q. (n + 1, omega arith, w.high n q (omega arith), λ e. omega arith))
       (cases_lt n i)
 
-  pub deleted : Drops s c t (c - 1) k
+  pub deleted : TakenFrom s c t (c - 1) k
   deleted = record {
     size = w.size;
     held = held del_sound;
@@ -169,7 +182,7 @@ module _ (s t : List Entry) (c i : ℕ) (k : Key) (old : Sound s c) (low : i < c
     rest = λ m h. w.rest m (omega arith);
   }
 
-pub untouched : (s : List Entry) (c i : ℕ) (k : Key) → Sound s c → Sought s c k (Err i) → Drops s c s c k
+pub untouched : (s : List Entry) (c i : ℕ) (k : Key) → Sound s c → Sought s c k (Err i) → TakenFrom s c s c k
 untouched s c i k old place = record {
   size = refl;
   held = held old;

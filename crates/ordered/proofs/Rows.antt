@@ -22,8 +22,8 @@ sound_prop p q = λ i. record {
   rising = Π_prop (λ _. Π_prop (λ _. Π_prop (λ _. Π_prop (λ _. Coded-set coded_bool _ _)))) p.rising q.rising i;
 }
 
-pub opened : {s : List Entry} {c : ℕ} → ∥ Sound s c ∥₁ → Sound s c
-opened h = ∥∥₁_elim h sound_prop (λ x. x)
+pub opened : {s : List Entry} {c : ℕ} → Held s c → Sound s c
+opened h = ∥∥₁_elim h.in_order sound_prop (λ x. x)
 
 -- ---- one write
 
@@ -140,7 +140,7 @@ pairs_unique s zero far = refl
 pairs_unique s (suc c) far =
     unique_from ((at s c).key, (at s c).life) (pairs_of s c) (look_none s _ c (λ m l. far m c l (omega arith))) (pairs_unique s c (λ i j l h. far i j l (omega arith)))
 
--- what the ghost fields of a store say
+-- what the ghost field of a table says
 pub sound_unique : (s : List Entry) (c : ℕ) → Sound s c → Unique (pairs_of s c)
 sound_unique s c h = pairs_unique s c (apart s c h)
 
@@ -149,9 +149,6 @@ sound_fits s c h = subst (λ n. n ≤ room_of s) (sym (pairs_length s c)) h.fits
 
 pub held : {s : List Entry} {c : ℕ} → Sound s c → Held s c
 held {s} {c} h = record { in_order = ∣ h ∣₁; apart = sound_unique s c h; within = sound_fits s c h }
-
-pub none_sound : (s : List Entry) → Sound s 0
-none_sound s = record { fits = omega arith; rising = λ i j l h. absurd (omega arith) }
 
 -- ---- what a change at one key leaves
 

@@ -1,5 +1,5 @@
 -- A table whose first entries rise strictly by their keys.
-use Rattle.std.specs.Prelude.{◌≡◌, ℕ, zero, suc, ◌+◌, ◌-◌, ◌<◌, ◌≤◌, Bool, true, false, cond, List, [], ◌∷◌, length, is_ok, Ok, Err, Result, nat_le, slice_index_or}
+use Rattle.std.specs.Prelude.{◌≡◌, ℕ, zero, suc, ◌<◌, ◌≤◌, Bool, true, false, cond, List, [], ◌∷◌, length, is_ok, Ok, Err, Result, nat_le, slice_index_or}
 use Rattle.text.specs.Bytes.{between}
 use Rattle.life.specs.declared.key.Key.{Key}
 use Rattle.life.specs.declared.life.Life.{Life}
@@ -36,21 +36,6 @@ abbrev pub Sought : List Entry → ℕ → Key → Result ℕ ℕ → Type 0
 Sought s c k (Ok i) = (i < c) × ((at s i).key ≡ k)
 Sought s c k (Err i) = (i ≤ c) × ((m : ℕ) → m < i → Before (at s m).key k) × ((m : ℕ) → i ≤ m → m < c → Before k (at s m).key)
 
--- t is s with one entry more at i
-pub record Inserted (s t : List Entry) (c i : ℕ) (e : Entry) : Type 0 where
-  pub size : length t ≡ length s
-  pub low : (m : ℕ) → m < i → at t m ≡ at s m
-  pub here : at t i ≡ e
-  pub high : (m : ℕ) → i < m → m ≤ c → at t m ≡ at s (m - 1)
-  pub rest : (m : ℕ) → c < m → at t m ≡ at s m
-
--- t is s without the entry at i
-pub record Deleted (s t : List Entry) (c i : ℕ) : Type 0 where
-  pub size : length t ≡ length s
-  pub low : (m : ℕ) → m < i → at t m ≡ at s m
-  pub high : (m : ℕ) → i ≤ m → m + 1 < c → at t m ≡ at s (m + 1)
-  pub rest : (m : ℕ) → c ≤ m + 1 → at t m ≡ at s m
-
 -- what holds of a store's table: it is sound, no key stands twice, and no more are held than can be
 pub record Held (s : List Entry) (c : ℕ) : Type 0 where
   pub in_order : ∥ Sound s c ∥₁
@@ -59,7 +44,7 @@ pub record Held (s : List Entry) (c : ℕ) : Type 0 where
 
 -- what `put` does to a table s with c entries in use, which is then t with d: it keeps its length and its order, and a new key
 -- that finds no room alters nothing; the entries that are not in use stay
-pub record Puts (s : List Entry) (c : ℕ) (t : List Entry) (d : ℕ) (k : Key) (l : Life) (r : Result (Unit {0}) NoRoom) : Type 0 where
+pub record PutInto (s : List Entry) (c : ℕ) (t : List Entry) (d : ℕ) (k : Key) (l : Life) (r : Result (Unit {0}) NoRoom) : Type 0 where
   pub size : length t ≡ length s
   pub held : Held t d
   pub room : room_of t ≡ room_of s
@@ -69,7 +54,7 @@ pub record Puts (s : List Entry) (c : ℕ) (t : List Entry) (d : ℕ) (k : Key) 
   pub rest : (m : ℕ) → d ≤ m → at t m ≡ at s m
 
 -- what `remove` does; a table without room is not written
-pub record Drops (s : List Entry) (c : ℕ) (t : List Entry) (d : ℕ) (k : Key) : Type 0 where
+pub record TakenFrom (s : List Entry) (c : ℕ) (t : List Entry) (d : ℕ) (k : Key) : Type 0 where
   pub size : length t ≡ length s
   pub held : Held t d
   pub room : room_of t ≡ room_of s

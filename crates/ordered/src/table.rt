@@ -1,7 +1,7 @@
 // A table of entries in rising order of their keys.
-ghost use Rattle.std.specs.Prelude.{◌≡◌, ◌<◌, ◌≤◌, true, length, Ok, Err, nat_le};
-ghost use Rattle.life.specs.Pairs.{look, distinct};
-ghost use Rattle.ordered.specs.Table.{at, room_of as room_in, pairs_of as pairs_in, Sound, Sought, Puts, Drops};
+ghost use Rattle.std.specs.Prelude.{◌≡◌, ◌<◌, Ok, Err, nat_le};
+ghost use Rattle.life.specs.Pairs.{look};
+ghost use Rattle.ordered.specs.Table.{at, Held};
 
 use crate::entry::Entry;
 use life::{Key, Life, NoRoom};
@@ -15,12 +15,12 @@ pub(crate) const LONGEST: usize = 65535;
 pub(crate) struct Table<'t> {
     pub(crate) entries: &'t mut [Entry],
     pub(crate) count: usize,
-    ghost ok: { ∥ Sound entries.now count ∥₁ },
-    ghost apart: { distinct (pairs_in entries.now count) ≡ true },
-    ghost fits: { length (pairs_in entries.now count) ≤ room_in entries.now },
+    ghost held: { Held entries.now count },
 }
 
 impl<'t> Table<'t> {
+    ghost use Rattle.ordered.specs.Tables.{pairs_in, room_in, Finds, Puts, Drops};
+
     // No entry is in use yet.
     pub(crate) fn new(entries: &'t mut [Entry]) -> Table<'t>
         ensures count { result.count ≡ 0 }
@@ -31,7 +31,7 @@ impl<'t> Table<'t> {
 
     // How many entries it can hold: none where its length is not allowed.
     pub(crate) fn room(&self) -> usize
-        ensures { result ≡ room_in self.now.entries.now }
+        ensures { result ≡ room_in self.now }
     {
         let n = self.entries.len();
         if n <= LONGEST { n } else { 0 }
@@ -39,7 +39,7 @@ impl<'t> Table<'t> {
 
     // Where the key stands, or else where it belongs.
     fn place_of(&self, key: &Key) -> Result<usize, usize>
-        ensures { Sought self.now.entries.now self.now.count key.now result }
+        ensures { Finds self.now key.now result }
     {
         // Written out: it stops at an equal key. The slice's `binary_search_by` goes on, and a find among 4,000 took 211 ns, here 158.
         // The bar is the time of the loop before; docs/FIGURES.md has the figures of finds with the loop.
@@ -59,14 +59,14 @@ impl<'t> Table<'t> {
 
     // Whether no entry is free.
     fn is_full(&self) -> bool
-        ensures { result ≡ nat_le (room_in self.now.entries.now) self.now.count }
+        ensures { result ≡ nat_le (room_in self.now) self.now.count }
     {
         self.count >= self.room()
     }
 
     // The life at the key, if one is held.
     pub(crate) fn find(&self, key: &Key) -> Option<Life>
-        ensures { result ≡ look key.now (pairs_in self.now.entries.now self.now.count) }
+        ensures { result ≡ look key.now (pairs_in self.now) }
     {
         match self.place_of(key) {
             Ok(i) => Some(self.entries[i].life),
@@ -76,7 +76,7 @@ impl<'t> Table<'t> {
 
     // Puts the life at the key. Refused where the key is new and the table is full.
     pub(crate) fn put(&mut self, key: &Key, life: Life) -> Result<(), NoRoom>
-        ensures { Puts self.old.entries.now self.old.count self.new.entries.now self.new.count key.now life result }
+        ensures { Puts self.old self.new key.now life result }
     {
         match self.place_of(key) {
             Ok(i) => {
@@ -95,9 +95,9 @@ impl<'t> Table<'t> {
 
     // Moves the entries from `i` on up by one place, and writes the new one at `i`, where its key belongs.
     fn insert(&mut self, i: usize, entry: Entry)
-        requires place { Sought self.old.entries.now self.old.count entry.key (Err i) }
-        requires room { self.old.count < room_in self.old.entries.now }
-        ensures { Puts self.old.entries.now self.old.count self.new.entries.now self.new.count entry.key entry.life (Ok tt) }
+        requires place { Finds self.old entry.key (Err i) }
+        requires room { self.old.count < room_in self.old }
+        ensures { Puts self.old self.new entry.key entry.life (Ok tt) }
     {
         // Between the writes the order does not hold. They go through a reborrow, so that it has to hold again only at the end.
         let entries = &mut *self.entries;
@@ -108,7 +108,7 @@ impl<'t> Table<'t> {
 
     // Takes away the entry of the key, if there is one.
     pub(crate) fn remove(&mut self, key: &Key)
-        ensures { Drops self.old.entries.now self.old.count self.new.entries.now self.new.count key.now }
+        ensures { Drops self.old self.new key.now }
     {
         if let Ok(i) = self.place_of(key) {
             self.delete(i);
@@ -118,7 +118,7 @@ impl<'t> Table<'t> {
     // Moves the entries past `i` down by one place.
     fn delete(&mut self, i: usize)
         requires { i < self.old.count }
-        ensures { Drops self.old.entries.now self.old.count self.new.entries.now self.new.count (at self.old.entries.now i).key }
+        ensures { Drops self.old self.new (at self.old.entries.now i).key }
     {
         self.entries.copy_within(i + 1..self.count, i);
         self.count -= 1;

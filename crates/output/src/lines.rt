@@ -38,7 +38,8 @@ pub enum AnswerLine {
 }
 
 impl AnswerLine {
-    // Writes the line to the front of the buffer.
+    // Writes the line to the front of the buffer. By hand, not by `Display`: where the buffer is too short nothing may be written, and a formatter
+    // writes what fits.
     pub fn write(&self, out: &mut [u8]) -> Result<usize, OutputFault>
         ensures { Wrote out.old (line_text self.now) result out.new }
     {

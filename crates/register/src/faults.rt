@@ -23,6 +23,7 @@ impl From<LifeFault> for ActFault {
     }
 }
 
+// Its own methods, as each fault has: a trait over faults would say each contract again in its definitions, and each body again in an impl.
 impl ActFault {
     // The published number.
     pub fn number(&self) -> u8

@@ -1,8 +1,10 @@
 // Making a register, asking it, and doing an action to the life of a key.
 ghost use Rattle.std.specs.Prelude.{◌≡◌, [], ◌∷◌, length, if◌then◌else◌, Some, None, nat_le};
+ghost use Rattle.std.specs.List.{AllByRecursion};
 ghost use Rattle.life.specs.Acts.{life_in};
 ghost use Rattle.life.specs.Lives.{look, Same, altered, erase};
 ghost use Rattle.life.specs.Parts.{LifeParts, key_parts, life_parts};
+ghost use Rattle.measure.specs.Positions.{Within};
 ghost use Rattle.measure.specs.Totals.{total_in};
 ghost use Rattle.register.specs.Faults.{refused_by};
 ghost use Rattle.register.specs.Held.{Kept};
@@ -44,10 +46,11 @@ impl<'s, S: Store, M: Measure> Register<'s, S, M> {
         self.store.find(key)
     }
 
-    // The total of the open lives.
+    // The total of the open lives, whose contracts and quantities are within the bounds that positions ask for.
     pub fn total(&self) -> &M
         ensures told { result.now ≡ self.now.total }
         ensures sums { result.now ≡ total_in M.Measure self.now.lives }
+        ensures bounded { AllByRecursion Within self.now.lives }
     {
         &self.total
     }

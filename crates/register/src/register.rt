@@ -8,6 +8,7 @@ use life::Store;
 use measure::Measure;
 use std::marker::Model;
 
+// The bounds stand on the type since its model reads their members; without them no function of it could be called before either.
 #[derive(Drop)]
 pub struct Register<'s, S: Store, M: Measure> {
     pub(crate) store: &'s mut S,
@@ -18,7 +19,7 @@ pub struct Register<'s, S: Store, M: Measure> {
 impl<'s, S: Store, M: Measure> Model for Register<'s, S, M> {
     ghost Value = { Held M };
 
-    ghost view = { λ r. held (S.room r.store.now) (S.pairs r.store.now) (S.unique r.store.now) r.total };
+    ghost view = { λ r. held (S.room r.store.now) (S.pairs r.store.now) (S.unique r.store.now) (S.within r.store.now) r.total };
 
     ghost invariant = { λ r. r.total ≡ total_in M.Measure (plain (S.pairs r.store.now)) };
 }

@@ -5,21 +5,26 @@ use native.Mathlib.Bridge.{le_prop}
 use base.Stored.{Coded-set, coded_ℕ, coded_list}
 use Rattle.std.proofs.lemmas.List.{take-append-drop, length-take-le}
 use Rattle.std.specs.Cmp.Lexicographic.{slice_cmp}
+use Rattle.std.specs.declared.cmp.Ordering.{Ordering}
 use Rattle.std.specs.Ordering.{nat_cmp, ordering_then}
 use Rattle.std.specs.Str.{bytes_eq}
 use Rattle.std.proofs.lemmas.Slice.Eq.{bytes_eq-Decides}
 use Rattle.std.proofs.lemmas.Bool.Decides.{nat_tests, same_from_decides, Decides-like}
 use Rattle.text.specs.declared.bounded.Text.{Text}
-use Rattle.text.specs.Texts.{text_of, number_order, order}
+use Rattle.text.specs.Texts.{text_of, lexical, number_order, order}
 
 number_cmp : (x y : ℕ) → nat_cmp x y ≡ number_order x y
 number_cmp x y = grind (arith, nat_tests)
 
+-- the library's order of lists is this one
+pub as_lex : {X : Type 0} {R : X → X → Ordering} (f : X → X → Ordering) → ((x y : X) → f x y ≡ R x y) → (xs ys : List X) → lexical f xs ys ≡ slice_cmp R xs ys
+as_lex f h [] [] = refl
+as_lex f h [] (y ∷ ys) = refl
+as_lex f h (x ∷ xs) [] = refl
+as_lex f h (x ∷ xs) (y ∷ ys) = λ i. ordering_then (h x y i) (as_lex f h xs ys i)
+
 pub lex_order : (xs ys : List ℕ) → slice_cmp nat_cmp xs ys ≡ order xs ys
-lex_order [] [] = refl
-lex_order [] (y ∷ ys) = refl
-lex_order (x ∷ xs) [] = refl
-lex_order (x ∷ xs) (y ∷ ys) = λ i. ordering_then (number_cmp x y i) (lex_order xs ys i)
+lex_order xs ys = sym (as_lex number_order (λ x y. sym (number_cmp x y)) xs ys)
 
 -- equal texts are equal values
 pub text_same : {n : ℕ} (t u : Text n) → text_of t ≡ text_of u → t ≡ u

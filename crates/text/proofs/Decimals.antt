@@ -1,5 +1,5 @@
 -- A decimal, cut at its dot.
-use Rattle.std.proofs.Common.{◌≡◌, ℕ, Bool, ◌+◌, ◌-◌, ◌*◌, ◌^◌, ◌<◌, ◌≤◌, true, false, ◌&&◌, eqb, ltb, [], ◌∷◌, length, take, drop, IfSome, Some, None, Option, sym, refl, ap, ◌∙◌, ⊎_elim, arith}
+use Rattle.std.proofs.Common.{◌≡◌, ℕ, Bool, ◌+◌, ◌-◌, ◌*◌, ◌^◌, ◌<◌, ◌≤◌, true, false, ◌&&◌, eqb, ltb, [], ◌∷◌, length, take, drop, Some, None, Option, sym, refl, ap, ◌∙◌, ⊎_elim, arith}
 use Rattle.std.specs.Bool.{then_some}
 use Rattle.std.specs.Char.{is_ascii_digit}
 use Rattle.std.proofs.Math.Bool.{and-false}
@@ -109,7 +109,3 @@ module _ (most limit w : ℕ) (s : Bytes) (e : w ≡ span_to 46 s) where
 pub kept : (test : Bool) (n : ℕ) → then_some test n ≡ provided test n
 kept true n = refl
 kept false n = refl
-
-pub at_most_small : (limit n : ℕ) (o : Option ℕ) → o ≡ at_most limit n → IfSome o (λ v. v ≤ limit)
-at_most_small limit n None e = tt
-at_most_small limit n (Some v) e = grind (arith, nat_tests)

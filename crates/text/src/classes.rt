@@ -66,8 +66,8 @@ impl ByteClass for LettersOrDigits {
     }
 }
 
-// Whether every byte is of the class. By a fold with `&`, not `all`: the texts are short and are tested for every line, so no byte has a branch
-// of its own.
+// Whether every byte is of the class. By a fold with `&`, not `all`: the texts are short and are tested for every line, and with a branch for each
+// byte a million lines take 0.25 s for 0.22 (docs/FIGURES.md).
 pub fn all_of<C: ByteClass>(text: &[u8]) -> bool
     ensures { result ≡ every C.ByteClass.member text.now }
 {

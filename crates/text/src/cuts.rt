@@ -12,7 +12,8 @@ pub fn span_to(text: &[u8], separator: u8) -> usize
         .unwrap_or(text.len())
 }
 
-// What is left after the first `n` bytes and the separator that follows them: the named promise beside `span_to`. No crate here calls it.
+// What is left after the first `n` bytes and the separator that follows them: the named promise beside `span_to`. No crate here calls it, but
+// what a public function promises may not go.
 pub fn rest_after(text: &[u8], n: usize) -> &[u8]
     ensures rest { result.now ≡ drop (n + 1) text.now }
     ensures less { 0 < length text.now → length result.now < length text.now }

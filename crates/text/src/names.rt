@@ -4,7 +4,7 @@ ghost use Rattle.std.specs.Iterator.{YieldsFirstRef, item_count};
 ghost use Rattle.text.specs.Forms.{a_name, few_names, names_form};
 ghost use Rattle.text.specs.Listings.{listing, listing_in, first_name, first_in};
 
-use crate::classes::{IdBytes, all_of};
+use crate::codes::is_id;
 use crate::cuts::span_to;
 
 // The names in a part of a line: none, or those that its commas separate.
@@ -20,7 +20,7 @@ const LONGEST_NAME: usize = 32;
 fn is_name(text: &[u8]) -> bool
     ensures { result ≡ a_name text.now }
 {
-    1 <= text.len() && text.len() <= LONGEST_NAME && all_of::<IdBytes>(text)
+    is_id(text, 1, LONGEST_NAME)
 }
 
 // At most eight names.

@@ -5,7 +5,7 @@ ghost use Rattle.text.specs.Forms.{digits_form, time_form, at_most, decimal_form
 
 use crate::cuts::span_to;
 
-// The number that 1 to `most` digits write.
+// The number that 1 to `most` digits write. Digit by digit: `parse` wants a `str`, and takes a plus sign, which would have to be refused apart.
 fn digits_of(text: &[u8], most: usize) -> Option<u64>
     requires { most ≤ 10 }
     ensures value { result ≡ digits_form most text.now }

@@ -1,4 +1,5 @@
-// Texts are compared as their bytes are.
+// Texts are compared as their bytes are. Written out: clauses speak of the bytes of a text, and those of a derived comparison would speak of its
+// array and its length.
 ghost use Rattle.std.proofs.Common.{rules};
 ghost use Rattle.std.specs.Cmp.{partial_order_from_own_ties};
 ghost use Rattle.std.specs.Cmp.Lexicographic.{slice_cmp};
@@ -8,7 +9,6 @@ ghost use Rattle.std.specs.Str.{bytes_eq};
 ghost use Rattle.text.specs.Texts.{text_of};
 
 use crate::bounded::Text;
-use crate::texts::same_bytes;
 use std::cmp::Ordering;
 
 impl<const N: usize> PartialEq for Text<N> {
@@ -16,9 +16,9 @@ impl<const N: usize> PartialEq for Text<N> {
 
     ghost laws = { Prim.search (comparing, rules) };
 
-    // The bytes past the lengths are zero, so all N are compared: a fixed number, with no branch for each byte (see `same_places`).
+    // The bytes past the lengths are zero, so all N are compared: a fixed number.
     fn eq(&self, other: &Text<N>) -> bool {
-        self.len == other.len && same_bytes(&self.bytes, &other.bytes)
+        self.len == other.len && self.bytes == other.bytes
     }
 }
 

@@ -1,6 +1,5 @@
 // What a bounded text can do.
-ghost use Rattle.std.specs.Prelude.{◌≡◌, ℕ, ◌+◌, ◌<◌, ◌≤◌, true, ◌&&◌, [], length, fold, ◌==◌, nat_le};
-ghost use Rattle.std.specs.List.{zip};
+ghost use Rattle.std.specs.Prelude.{◌≡◌, ◌≤◌, ◌&&◌, [], length, nat_le};
 ghost use Rattle.std.specs.Str.{bytes_eq};
 ghost use Rattle.text.specs.Bytes.{provided, among};
 ghost use Rattle.text.specs.Texts.{text_of, text_in, texts_of, order};
@@ -44,14 +43,14 @@ impl<const N: usize> Text<N> {
         &self.bytes[..self.len as usize]
     }
 
-    // Whether two texts are the same: the named promise beside `==`. No crate here calls it.
+    // Whether two texts are the same: the named promise beside `==`. No crate here calls it, but what a public function promises may not go.
     pub fn same(&self, other: &Text<N>) -> bool
         ensures { result ≡ bytes_eq (text_of self.now) (text_of other.now) }
     {
         self == other
     }
 
-    // Which of two texts comes first: the named promise beside `cmp`. No crate here calls it.
+    // Which of two texts comes first: the named promise beside `cmp`. No crate here calls it, but what a public function promises may not go.
     #[tactic(auto, using(crate::proofs::Compared::lex_order))]
     pub fn compare(&self, other: &Text<N>) -> Ordering
         ensures { result ≡ order (text_of self.now) (text_of other.now) }
@@ -68,19 +67,11 @@ impl<const N: usize> Default for Text<N> {
     }
 }
 
-// Whether two texts are the same. Texts as long as each other are compared to their ends: see `same_places`.
+// Whether two texts are the same: the named promise beside the `==` of slices.
 pub fn same_bytes(a: &[u8], b: &[u8]) -> bool
     ensures { result ≡ bytes_eq a.now b.now }
 {
-    a.len() == b.len() && same_places(a, b)
-}
-
-// Whether the bytes at each place are the same. By a fold with `&`, not `all`: the texts are short and are compared for every line, so no byte
-// has a branch of its own.
-fn same_places(a: &[u8], b: &[u8]) -> bool
-    ensures { result ≡ fold (λ good p. good && (p.0 == p.1)) true (zip a.now b.now) }
-{
-    a.iter().zip(b).fold(true, |good, (x, y)| good & (x == y))
+    a == b
 }
 
 // Whether a text stands in a list.
@@ -90,12 +81,12 @@ pub fn is_among<const N: usize>(texts: &[Text<N>], text: &[u8]) -> bool
     texts.iter().any(
         |t| -> bool
             ensures { result ≡ bytes_eq text.entry.now (text_of t.now) }
-        { same_bytes(text, t.as_slice()) },
+        { text == t.as_slice() },
     )
 }
 
 // Which of two texts comes first: by the first byte from the left that differs, and a text before what it begins. The named promise beside
-// the `cmp` of slices; no crate here calls it.
+// the `cmp` of slices. No crate here calls it, but what a public function promises may not go.
 #[tactic(auto, using(crate::proofs::Compared::lex_order))]
 pub fn compare_bytes(a: &[u8], b: &[u8]) -> Ordering
     ensures { result ≡ order a.now b.now }

@@ -9,7 +9,6 @@ use Rattle.calls.proofs.checker.Checker.judge.Goals as goal
 pub returns : goal.returns
 returns g c =
     let m = g.M.Measure in
-    let s = g.S.Store in
     let was = c.args.self.now in
     let is = c.judge_at.new.self in
     continues m was is (Judge c.args.file.now.number c.args.line.now) (judge_answer c.judge_at.result)

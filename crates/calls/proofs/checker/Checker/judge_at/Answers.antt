@@ -7,7 +7,6 @@ use Rattle.calls.proofs.checker.Checker.judge_at.Goals as goal
 pub returns : goal.returns
 returns g c =
     let m = g.M.Measure in
-    let s = g.S.Store in
     let was = c.args.self.now in
     let mid = c.try_line-answer.new.self in
     counted_step m (book_in was) (book_in mid) was.register.total mid.register.total c.args.number c.args.line.now

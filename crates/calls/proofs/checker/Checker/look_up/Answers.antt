@@ -10,7 +10,6 @@ use Rattle.calls.proofs.checker.Checker.look_up.Goals as goal
 pub returns-in_err-claim : goal.returns-in_err-claim
 returns-in_err-claim g c =
     let m = g.M.Measure in
-    let s = g.S.Store in
     let was = c.args.self.now in
     let p = err_from_is_err_and c.from_residual.result c.from_residual.ensures.1 in
     let x = c.in_err-claim.field-0.0 in
@@ -21,7 +20,6 @@ returns-in_err-claim g c =
 pub returns : goal.returns
 returns g c =
     let m = g.M.Measure in
-    let s = g.S.Store in
     let was = c.args.self.now in
     continues m was was (LookUp c.args.line.now) (finding_answer (Ok c.find.result))
     (look_step m (book_in was) was.register.total c.args.line.now (Ok c.in_ok-claim.claim) (Ok c.find.result) c.in_ok-claim.ensures c.find.ensures.found)

@@ -13,7 +13,6 @@ use Rattle.calls.proofs.checker.Checker.name_next.Goals as goal
 pub returns : goal.returns
 returns g c =
     let m = g.M.Measure in
-    let s = g.S.Store in
     let was = c.args.self.now in
     let named = c.name_next in
     let files = was.files.files in

@@ -10,7 +10,6 @@ loop-call-init g c = λ capacity f. f
 pub loop-call-preserved : goal.loop-call-preserved
 loop-call-preserved g c = λ capacity f.
     let m = g.M.Measure in
-    let s = g.S.Store in
     let cs = c.args.calls.now in
     let i = c.loop-call.call-index in
     subst (λ calls. HasRun m capacity calls c.step.new.self) (said_more cs i _ c.loop-call-test.true)

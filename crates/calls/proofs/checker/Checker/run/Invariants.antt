@@ -6,6 +6,5 @@ use Rattle.calls.proofs.checker.Checker.run.Given as goal
 abbrev pub invariant-loop-call : goal.invariant-loop-call
 invariant-loop-call g l =
     let m = g.M.Measure in
-    let s = g.S.Store in
     (capacity : ℕ) → HasRun m capacity [] l.initial.run →
     HasRun m capacity (calls_said (take l.call-index l.calls)) l.run

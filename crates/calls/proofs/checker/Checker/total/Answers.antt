@@ -8,7 +8,6 @@ use Rattle.calls.proofs.checker.Checker.total.Goals as goal
 pub returns : goal.returns
 returns g c =
     let m = g.M.Measure in
-    let s = g.S.Store in
     let was = c.args.self.now in
     record {
       told = λ capacity past f. c.total.ensures.told ∙ f.sums;

@@ -11,21 +11,18 @@ use Rattle.calls.proofs.checker.Checker.try_line.Goals as goal
 pub returns-in_err-takes : goal.returns-in_err-takes
 returns-in_err-takes g c =
     let m = g.M.Measure in
-    let s = g.S.Store in
     file_refused m (book_in c.args.self.now) c.args.self.now.register.total c.args.number c.args.line.now
     c.from_residual.result c.in_err-takes.field-0.0 c.from_residual.ensures.1 c.in_err-takes.ensures
 
 pub returns-in_err-claim : goal.returns-in_err-claim
 returns-in_err-claim g c =
     let m = g.M.Measure in
-    let s = g.S.Store in
     text_refused m (book_in c.args.self.now) c.args.self.now.register.total c.args.number c.args.line.now
     c.from_residual-in_err-claim.result c.in_err-claim.field-0.0 c.from_residual-in_err-claim.ensures.1 c.in_ok-takes.ensures c.in_err-claim.ensures
 
 pub returns-in-Ok : goal.returns-in-Ok
 returns-in-Ok g c =
     let m = g.M.Measure in
-    let s = g.S.Store in
     let claim = c.in_ok-claim.claim in
     let e = c.in-Ok.ensures in
     lives_decide m (book_in c.args.self.now) _ c.args.self.now.register.total c.judge.new.self.total c.args.number c.args.line.now
@@ -34,7 +31,6 @@ returns-in-Ok g c =
 pub returns-in-Err : goal.returns-in-Err
 returns-in-Err g c =
     let m = g.M.Measure in
-    let s = g.S.Store in
     let claim = c.in_ok-claim.claim in
     let e = c.in-Err.ensures in
     let fault = c.in-Err.fault in

@@ -3,15 +3,14 @@ use Rattle.files.specs.Held.{Filed}
 use Rattle.book.specs.Book.{Withdraw}
 use Rattle.calls.specs.Held.{book_in}
 use Rattle.calls.specs.Said.{ending_answer}
-use Rattle.calls.proofs.Checkers.{continues}
+use Rattle.calls.proofs.Checkers.{continues_files}
 use Rattle.calls.proofs.Moves.{withdraw_step}
 use Rattle.calls.proofs.checker.Checker.withdraw_at.Goals as goal
 
 pub returns : goal.returns
 returns g c =
     let m = g.M.Measure in
-    let s = g.S.Store in
     let was = c.args.self.now in
     let call = c.withdraw_at in
-    continues m was (record { register = was.register; entities = was.entities; contracts = was.contracts; files = call.new.self }) (Withdraw c.args.number) (ending_answer call.result)
+    continues_files m was call.new.self (Withdraw c.args.number) (ending_answer call.result)
     (withdraw_step m (book_in was) was.register.total c.args.number call.result (call.new.self.files) call.ensures.told call.ensures.counts (ap (λ (f : Filed). f.files) call.ensures.list))

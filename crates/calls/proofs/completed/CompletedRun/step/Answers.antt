@@ -8,7 +8,6 @@ use Rattle.calls.proofs.completed.CompletedRun.step.Goals as goal
 pub returns-in_ok-push-in-Answered : goal.returns-in_ok-push-in-Answered
 returns-in_ok-push-in-Answered g c capacity past f =
     let m = g.M.Measure in
-    let s = g.S.Store in
     let was = c.args.self.now in
     let is = c.call.new.self in
     let goes = c.in_ok-answer.ensures.follows capacity past f.follows in
@@ -19,7 +18,6 @@ returns-in_ok-push-in-Answered g c capacity past f =
 pub returns-in_ok-push-in-Total-2 : goal.returns-in_ok-push-in-Total-2
 returns-in_ok-push-in-Total-2 g c capacity past f =
     let m = g.M.Measure in
-    let s = g.S.Store in
     let was = c.args.self.now in
     let is = c.call.new.self in
     let goes = c.in_ok-answer.ensures.follows capacity past f.follows in

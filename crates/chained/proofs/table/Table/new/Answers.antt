@@ -2,6 +2,4 @@ use Rattle.chained.proofs.Facts.{emptied_whole, held}
 use Rattle.chained.proofs.table.Table.new.Goals as goal
 
 pub invariant_of-result : goal.invariant_of-result
-invariant_of-result c =
-    let h = held (emptied_whole _ _ c.prepare.ensures) in
-    record { ok = h.in_chains; apart = h.apart; fits = h.within }
+invariant_of-result c = record { held = held (emptied_whole _ _ c.prepare.ensures) }

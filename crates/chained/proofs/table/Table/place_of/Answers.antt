@@ -8,7 +8,7 @@ use Rattle.chained.proofs.table.Table.place_of.Goals as goal
 pub loop-j-init : goal.loop-j-init
 loop-j-init c =
     let s = c.args.self.now.slots.now in
-    let sound = (opened c.args.self.now.ok).allowed (omega arith) in
+    let sound = (opened c.args.self.now.held).allowed (omega arith) in
     let b = c.chain.ensures in
     let begins = start s _ c.args.key.now _ _ (ap (λ (x : Slot). x.head) (at_read s _ _ b.high)) sound b.is b.low b.high in
     (sound, begins.0, begins.1, begins.2)

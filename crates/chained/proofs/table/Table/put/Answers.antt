@@ -11,15 +11,14 @@ pub invariant_of-self : goal.invariant_of-self
 invariant_of-self c =
     let t = c.in-Some.ensures.0 in
     let o = c.in-Some.ensures.1 in
-    let h = sound_at _ _ _ _ (opened c.args.self.now.ok) c.in-Some.ensures in
-    let then = held (whole _ _ (held_sound _ _ _ _ _ _ h t o.within (o.held t) c.set_pair.ensures)) in
-    record { ok = then.in_chains; apart = then.apart; fits = then.within }
+    let h = sound_at _ _ _ _ (opened c.args.self.now.held) c.in-Some.ensures in
+    record { held = held (whole _ _ (held_sound _ _ _ _ _ _ h t o.within (o.held t) c.set_pair.ensures)) }
 
 pub returns-in-Some : goal.returns-in-Some
 returns-in-Some c =
     let t = c.in-Some.ensures.0 in
     let o = c.in-Some.ensures.1 in
-    let h = sound_at _ _ _ _ (opened c.args.self.now.ok) c.in-Some.ensures in
+    let h = sound_at _ _ _ _ (opened c.args.self.now.held) c.in-Some.ensures in
     record {
       held = held (whole _ _ (held_sound _ _ _ _ _ _ h t o.within (o.held t) c.set_pair.ensures));
       room = room_to _ _ c.set_pair.ensures.size;
@@ -41,7 +40,7 @@ returns-then-is_full c =
     let n = c.args.self.now.count in
     let full : room_of s ≤ n = leb-true (room_of s) n (sym c.if-is_full.ensures) in
     record {
-      held = held (opened c.args.self.now.ok);
+      held = c.args.self.now.held;
       room = refl;
       fits = sym (or_from _ _ (ap is_some (lookup_none _ _ _ (c.in_default.ensures.missed refl))) (le-ltb (length (pairs_of s n)) (room_of s) (omega (arith, pairs_length s n))));
       holds = λ q. refl;

@@ -1,16 +1,14 @@
 use Rattle.std.proofs.Common.{rules}
-use Rattle.ordered.specs.Table.{Inserted}
 use Rattle.ordered.proofs.Rows.{opened}
-use Rattle.ordered.proofs.Changes.{inserted}
+use Rattle.ordered.proofs.Changes.{Inserted, inserted}
 use Rattle.ordered.proofs.table.Table.insert.Goals as goal
 
 pub invariant_of-self : goal.invariant_of-self
 invariant_of-self c =
     let w : Inserted c.args.self.now.entries.now _ c.args.self.now.count c.args.i c.args.entry = search rules in
-    let h = (inserted _ _ _ _ _ _ (opened c.args.self.now.ok) c.requires.room c.requires.place w).held in
-    record { ok = h.in_order; apart = h.apart; fits = h.within }
+    record { held = (inserted _ _ _ _ _ _ (opened c.args.self.now.held) c.requires.room c.requires.place w).held }
 
 pub returns : goal.returns
 returns c =
     let w : Inserted c.args.self.now.entries.now _ c.args.self.now.count c.args.i c.args.entry = search rules in
-    inserted _ _ _ _ _ _ (opened c.args.self.now.ok) c.requires.room c.requires.place w
+    inserted _ _ _ _ _ _ (opened c.args.self.now.held) c.requires.room c.requires.place w
