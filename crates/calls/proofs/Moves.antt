@@ -79,6 +79,12 @@ module _ {V : Type 0} (weighing : Ghosts V) where
   contract_step was t bs r cs e l =
       exactly was (with_contracts was cs) t (AddContract bs) (contract_answer r) (contract_says was bs _ r _ e) (ap (with_contracts was) l ∙ sym (contracts_after bs was)) refl refl
 
+  -- an added contract has the next number
+  pub contract_numbered : (bs : Bytes) (n : ℕ) (r : Result ℕ ContractFault) (v : Option (ℕ × ℕ)) → added_in r ≡ settled_by bs n v → IfOk r (λ m. m ≡ n)
+  contract_numbered bs n (Ok m) None e = cc
+  contract_numbered bs n (Ok m) (Some x) e = let z : ◌≡◌ {A = ℕ} 0 1 = cc in absurd (omega arith)
+  contract_numbered bs n (Err f) v e = tt
+
   -- ---- Files
 
   files_as : (b : Book) (c : Call) (fs : List File) (v : Option (ℕ × ℕ)) → done b c ≡ with_files b fs → undone b c ≡ b → changed b c v ≡ with_files b (cond (is_some v) b.files fs)

@@ -1,5 +1,5 @@
 // Making a checker; adding entities and contracts; looking up; and the total.
-ghost use Rattle.std.specs.Prelude.{◌≡◌, ℕ, List, [], IfOk};
+ghost use Rattle.std.specs.Prelude.{◌≡◌, ℕ, ◌+◌, List, [], length, IfOk};
 ghost use Rattle.book.specs.Book.{Call, AddEntity, AddContract, LookUp, Total as TotalCall, Accepted as AcceptedAnswer};
 ghost use Rattle.calls.specs.Follows.{book_after, book_total};
 ghost use Rattle.calls.specs.Held.{Led, Continues};
@@ -39,9 +39,10 @@ impl<'s, S: Store, M: Measure> Checker<'s, S, M> {
         self.entities.add(code)
     }
 
-    // Adds a contract by its text: its number, or the first rule that it breaks.
+    // Adds a contract by its text: its number, which is one more than how many were listed, or the first rule that it breaks.
     pub fn add_contract(&mut self, text: &[u8]) -> Result<u8, ContractFault>
-        ensures { Continues M.Measure self.old (AddContract text.now) (contract_answer result) self.new }
+        ensures number { IfOk result (λ n. n ≡ length self.old.contracts + 1) }
+        ensures follows { Continues M.Measure self.old (AddContract text.now) (contract_answer result) self.new }
     {
         self.contracts.add(text)
     }

@@ -1,12 +1,16 @@
+use Rattle.std.proofs.Common.{rules}
 use Rattle.book.specs.Book.{AddContract}
 use Rattle.calls.specs.Held.{book_in}
 use Rattle.calls.specs.Said.{contract_answer}
 use Rattle.calls.proofs.Checkers.{continues}
-use Rattle.calls.proofs.Moves.{contract_step}
+use Rattle.calls.proofs.Moves.{contract_numbered, contract_step}
 use Rattle.calls.proofs.checker.Checker.add_contract.Goals as goal
 
-pub returns : goal.returns
-returns g c =
+pub returns-clause-number : goal.returns-clause-number
+returns-clause-number g c = search (rules, contract_numbered g.M.Measure c.args.text.now _ c.add.result _ c.add.ensures.told)
+
+pub returns-clause-follows : goal.returns-clause-follows
+returns-clause-follows g c =
     let m = g.M.Measure in
     let was = c.args.self.now in
     continues m was (record { register = was.register; entities = was.entities; contracts = c.add.new.self; files = was.files }) (AddContract c.args.text.now) (contract_answer c.add.result)

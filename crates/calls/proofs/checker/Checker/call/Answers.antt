@@ -22,7 +22,7 @@ returns-clause-follows g c =
     let was = c.args.self.now in
     elim c.match-call.branch [
       | in-AddEntity w ↦ replies m was w.in-AddEntity.is (λ y t. refl) w.answer-is w.of_entity-answer.ensures w.self-is w.add_entity.ensures
-      | in-AddContract w ↦ replies m was w.in-AddContract.is (λ y t. refl) w.answer-is w.of_contract-answer.ensures w.self-is w.add_contract.ensures
+      | in-AddContract w ↦ replies m was w.in-AddContract.is (λ y t. refl) w.answer-is w.of_contract-answer.ensures w.self-is w.add_contract.ensures.follows
       | in-NameFile+in_ok-answer-in-NameFile w ↦
           replies m was w.in-NameFile.is (λ y t. refl) w.answer-is refl w.self-is w.in_ok-answer-in-NameFile.ensures.follows
       | in-Identify w ↦ replies m was w.in-Identify.is (λ y t. refl) w.answer-is w.of_identifying-answer.ensures w.self-is w.identify_at.ensures
