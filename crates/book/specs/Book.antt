@@ -1,5 +1,5 @@
 -- The book: what is held and answered, said by the capacity and the calls alone.
-use Rattle.std.specs.Prelude.{ℕ, Bool, cond, ◌&&◌, List, [], ◌∷◌, ◌++◌, length, ℤ, is_some, Some, None, Option, nat_le, slice_index_or, slice_set}
+use Rattle.std.specs.Prelude.{ℕ, Bool, cond, ◌&&◌, List, [], ◌∷◌, ◌++◌, length, ℤ, is_some, Some, None, Option, nat_le, slice_set}
 use Rattle.text.specs.declared.words.Action.{Action}
 use Rattle.text.specs.declared.words.Action.TheVariants.{New, Modify, Error, Cancel}
 use Rattle.text.specs.Bytes.{Bytes, start, value}
@@ -9,6 +9,7 @@ use Rattle.contract.specs.ContractList.{Contract, offered, contract_rows, Told, 
 use Rattle.filing.specs.Entities.{entity_rows}
 use Rattle.filing.specs.Names.{name_form, naming_rows}
 use Rattle.filing.specs.Files.{Identified, Ended, File, named_file, at_stage, identifying_rows, withdrawing_rows, closing_rows, taking_rows, one_accepted, one_refused}
+pub use Rattle.filing.specs.Files.{no_file, file_of}
 use Rattle.life.specs.Parts.{KeyParts, LifeParts}
 use Rattle.life.specs.Lives.{Lives, look, altered, erase}
 use Rattle.life.specs.Rules.{Claim, is_new, life_rows, new_life, modified, cancelled}
@@ -37,13 +38,6 @@ with_files b fs = record { capacity = b.capacity; entities = b.entities; contrac
 
 abbrev pub with_lives : Book → Lives → Book
 with_lives b ls = record { capacity = b.capacity; entities = b.entities; contracts = b.contracts; files = b.files; lives = ls }
-
--- what stands where no file does: nothing can be done with it
-abbrev pub no_file : File
-no_file = at_stage Ended (named_file [])
-
-abbrev pub file_of : List File → ℕ → File
-file_of fs n = slice_index_or fs n no_file
 
 -- ---- Calls and answers
 

@@ -7,9 +7,8 @@ use calls::Checker;
 use chained::{Chained, Slot};
 use files::{IdentifiedFile, NamedFile, NamingError};
 use journal::{Event, Journal};
-use life::{Key, Life, Store};
-use measure::{Measure, Sheet};
-use std::alloc::AllocError;
+use life::{Key, Life};
+use measure::Sheet;
 use std::io;
 use text::{Kind, Side};
 
@@ -37,133 +36,122 @@ static LINES: [&'static [u8]; 7] = [
     b"hello",
 ];
 
-// Adds an entity and a contract.
-fn add_lists<S: Store, M: Measure>(checker: &mut Checker<S, M>, journal: &mut Journal) {
-    match checker.add_entity(ENTITY) {
-        Ok(()) => journal.tell(Event::EntityAdded),
-        Err(fault) => journal.tell(Event::NotAdded(fault.number())),
-    }
-    match checker.add_contract(b"DE-1;FW;;") {
-        Ok(number) => journal.tell(Event::ContractAdded(number)),
-        Err(fault) => journal.tell(Event::NotAdded(fault.number())),
-    }
+// A checker that is driven, and the journal of what it answers.
+#[derive(Drop)]
+struct Driver<'s, 't> {
+    checker: Checker<'s, Chained<'t>, Sheet>,
+    journal: Journal,
 }
 
-fn name<S: Store, M: Measure>(
-    checker: &mut Checker<S, M>,
-    name: &[u8],
-    journal: &mut Journal,
-) -> Option<NamedFile> {
-    match checker.name_file(name) {
-        Ok(file) => {
-            journal.tell(Event::Named(file.number()));
-            Some(file)
+impl Driver<'_, '_> {
+    // Adds an entity and a contract.
+    fn add_lists(&mut self) {
+        match self.checker.add_entity(ENTITY) {
+            Ok(()) => self.journal.tell(Event::EntityAdded),
+            Err(fault) => self.journal.tell(Event::NotAdded(fault.number())),
         }
-        Err(NamingError::Fault(fault)) => {
-            journal.tell(Event::NotNamed(fault.number()));
-            None
-        }
-        Err(NamingError::NoMemory) => {
-            journal.tell(Event::NoMemory);
-            None
+        match self.checker.add_contract(b"DE-1;FW;;") {
+            Ok(number) => self.journal.tell(Event::ContractAdded(number)),
+            Err(fault) => self.journal.tell(Event::NotAdded(fault.number())),
         }
     }
-}
 
-// The token of the identified file, or the one that a refusal hands back.
-fn identify<S: Store, M: Measure>(
-    checker: &mut Checker<S, M>,
-    named: NamedFile,
-    code: &[u8],
-    journal: &mut Journal,
-) -> Result<IdentifiedFile, NamedFile> {
-    match checker.identify(named, code) {
-        Ok(identified) => {
-            journal.tell(Event::Identified(identified.number()));
-            Ok(identified)
-        }
-        Err((fault, back)) => {
-            journal.tell(Event::NotIdentified {
-                file: back.number(),
-                number: fault.number(),
-            });
-            Err(back)
+    fn name(&mut self, name: &[u8]) -> Option<NamedFile> {
+        match self.checker.name_file(name) {
+            Ok(file) => {
+                self.journal.tell(Event::Named(file.number()));
+                Some(file)
+            }
+            Err(NamingError::Fault(fault)) => {
+                self.journal.tell(Event::NotNamed(fault.number()));
+                None
+            }
+            Err(NamingError::NoMemory) => {
+                self.journal.tell(Event::NoMemory);
+                None
+            }
         }
     }
-}
 
-fn judge_lines<S: Store, M: Measure>(
-    checker: &mut Checker<S, M>,
-    file: &IdentifiedFile,
-    journal: &mut Journal,
-) {
-    for line in &LINES {
-        match checker.judge(file, line) {
-            Ok(()) => journal.tell(Event::Accepted),
-            Err(fault) => journal.tell(Event::Refused {
-                number: fault.number(),
-                field: fault.field(),
-                at: fault.offset(),
-            }),
+    // The token of the identified file, or the one that a refusal hands back.
+    fn identify(&mut self, named: NamedFile, code: &[u8]) -> Result<IdentifiedFile, NamedFile> {
+        match self.checker.identify(named, code) {
+            Ok(identified) => {
+                self.journal.tell(Event::Identified(identified.number()));
+                Ok(identified)
+            }
+            Err((fault, back)) => {
+                self.journal.tell(Event::NotIdentified {
+                    file: back.number(),
+                    number: fault.number(),
+                });
+                Err(back)
+            }
         }
     }
-}
 
-fn withdraw<S: Store, M: Measure>(
-    checker: &mut Checker<S, M>,
-    named: NamedFile,
-    journal: &mut Journal,
-) {
-    match checker.withdraw(named) {
-        Ok(receipt) => journal.tell(Event::Withdrawn(receipt)),
-        Err(fault) => journal.tell(Event::NotEnded(fault.number())),
-    }
-}
-
-fn close<S: Store, M: Measure>(
-    checker: &mut Checker<S, M>,
-    identified: IdentifiedFile,
-    journal: &mut Journal,
-) {
-    match checker.close(identified) {
-        Ok(receipt) => journal.tell(Event::Closed(receipt)),
-        Err(fault) => journal.tell(Event::NotEnded(fault.number())),
-    }
-}
-
-// A file that is named and withdrawn.
-fn withdrawn_file<S: Store, M: Measure>(checker: &mut Checker<S, M>, journal: &mut Journal) {
-    if let Some(named) = name(checker, NAME, journal) {
-        withdraw(checker, named, journal);
-    }
-}
-
-// A file that is identified at the second try. While it stands, another one is named and withdrawn.
-fn closed_file<S: Store, M: Measure>(checker: &mut Checker<S, M>, journal: &mut Journal) {
-    let Some(named) = name(checker, NAME, journal) else {
-        return;
-    };
-    let back = match identify(checker, named, OTHER_ENTITY, journal) {
-        Ok(identified) => return close(checker, identified, journal),
-        Err(back) => back,
-    };
-    match identify(checker, back, ENTITY, journal) {
-        Ok(identified) => {
-            judge_lines(checker, &identified, journal);
-            withdrawn_file(checker, journal);
-            close(checker, identified, journal);
+    fn judge_lines(&mut self, file: &IdentifiedFile) {
+        for line in &LINES {
+            match self.checker.judge(file, line) {
+                Ok(()) => self.journal.tell(Event::Accepted),
+                Err(fault) => self.journal.tell(Event::Refused {
+                    number: fault.number(),
+                    field: fault.field(),
+                    at: fault.offset(),
+                }),
+            }
         }
-        Err(back) => withdraw(checker, back, journal),
     }
-}
 
-fn drive<S: Store>(checker: &mut Checker<S, Sheet>, journal: &mut Journal) {
-    add_lists(checker, journal);
-    if let Some(file) = name(checker, SHORT_NAME, journal) {
-        withdraw(checker, file, journal);
+    fn withdraw(&mut self, named: NamedFile) {
+        match self.checker.withdraw(named) {
+            Ok(receipt) => self.journal.tell(Event::Withdrawn(receipt)),
+            Err(fault) => self.journal.tell(Event::NotEnded(fault.number())),
+        }
     }
-    closed_file(checker, journal);
-    journal.tell(Event::Position(checker.total().position(1)));
+
+    fn close(&mut self, identified: IdentifiedFile) {
+        match self.checker.close(identified) {
+            Ok(receipt) => self.journal.tell(Event::Closed(receipt)),
+            Err(fault) => self.journal.tell(Event::NotEnded(fault.number())),
+        }
+    }
+
+    // A file that is named and withdrawn.
+    fn withdrawn_file(&mut self) {
+        if let Some(named) = self.name(NAME) {
+            self.withdraw(named);
+        }
+    }
+
+    // A file that is identified at the second try. While it stands, another one is named and withdrawn.
+    fn closed_file(&mut self) {
+        let Some(named) = self.name(NAME) else {
+            return;
+        };
+        let back = match self.identify(named, OTHER_ENTITY) {
+            Ok(identified) => return self.close(identified),
+            Err(back) => back,
+        };
+        match self.identify(back, ENTITY) {
+            Ok(identified) => {
+                self.judge_lines(&identified);
+                self.withdrawn_file();
+                self.close(identified);
+            }
+            Err(back) => self.withdraw(back),
+        }
+    }
+
+    fn drive(&mut self) {
+        self.add_lists();
+        if let Some(file) = self.name(SHORT_NAME) {
+            self.withdraw(file);
+        }
+        self.closed_file();
+        self.journal
+            .tell(Event::Position(self.checker.total().position(1)));
+    }
 }
 
 fn free_slot() -> Option<Slot> {
@@ -183,9 +171,10 @@ fn main(rt: HostRuntime) -> io::Result<()> {
     };
     let mut slots = [slot; 3];
     let mut store = Chained::new(&mut slots);
-    let made: Result<Checker<Chained, Sheet>, AllocError> = Checker::new(rt.alloc(), &mut store);
-    let mut checker = made?;
-    let mut journal = Journal::new(rt);
-    drive(&mut checker, &mut journal);
-    journal.end()
+    let mut driver = Driver {
+        checker: Checker::new(rt.alloc(), &mut store)?,
+        journal: Journal::new(rt),
+    };
+    driver.drive();
+    driver.journal.end()
 }

@@ -152,14 +152,11 @@ number_of (Some c) = c.0
 abbrev pub contract_number : Told → ℕ
 contract_number x = cond (bilateral x.says) 0 (number_of x.under)
 
--- what a read line gets from the list: its contract number, or why it is refused; `bs` is its text
-abbrev pub owing : List Contract → Bytes → Reported → Result ℕ Refusal
-owing cs bs r = settled_by bs (contract_number (told cs r)) (first_fit market_rows (told cs r))
-
--- the same by number and field, for a caller that has the line's text
+-- a value, or the number and field of a refusal, for a caller that has the line's text
 abbrev pub settled_plainly : {V : Type 0} → V → Option (ℕ × ℕ) → Result V (ℕ × ℕ)
 settled_plainly v None = Ok v
 settled_plainly v (Some r) = Err r
 
+-- what a read line gets from the list: its contract number, or why it is refused
 abbrev pub due : List Contract → Reported → Result ℕ (ℕ × ℕ)
 due cs r = settled_plainly (contract_number (told cs r)) (first_fit market_rows (told cs r))

@@ -13,7 +13,7 @@ use crate::names::{has_all, has_twice};
 use crate::offers::read_contract;
 use line::{Report, field_offset};
 use std::alloc::{AllocError, Global};
-use text::{Names, same_bytes};
+use text::Names;
 
 // The most contracts, and the most index names of all contracts together.
 const MOST_CONTRACTS: usize = 63;
@@ -49,7 +49,7 @@ fn place_of(contracts: &[HeldContract], id: &[u8]) -> Option<usize>
 {
     contracts
         .iter()
-        .position(|contract| same_bytes(contract.id.as_slice(), id))
+        .position(|contract| contract.id.as_slice() == id)
 }
 
 impl ContractList {
@@ -140,7 +140,7 @@ impl ContractList {
         ensures told { number_in result ≡ due self.now (said report.now) }
         ensures small { IfOk result (λ n. n < 64) }
     {
-        if same_bytes(report.venue, b"XBIL") {
+        if report.venue == b"XBIL".as_slice() {
             return Ok(0);
         }
         let found = self.find(report.contract).ok_or(ListFault::NotListed)?;

@@ -22,7 +22,11 @@ impl FieldForm for OptionStyle {
     ghost form = { style_said };
 
     fn said_by(text: &[u8]) -> Option<OptionStyle> {
-        OptionStyle::of(text)
+        match text {
+            [] => Some(OptionStyle(None)),
+            [b] if b.is_ascii_uppercase() => Some(OptionStyle(Some(*b))),
+            _ => None,
+        }
     }
 }
 

@@ -1,7 +1,6 @@
 // The types of contracts, and option styles.
 ghost use Rattle.std.specs.Prelude.{◌≡◌};
 ghost use Rattle.contract.specs.ContractList.{type_form, needs_style};
-ghost use Rattle.contract.specs.Styles.{style_said};
 
 // The types, as their letters say them: auction, continuous, future, forward, option (alone and on a future, forward, spot or swap), other, spot,
 // swap, and swing.
@@ -23,7 +22,7 @@ pub enum ContractType {
 }
 
 impl ContractType {
-    // The type that a text names.
+    // The type that a text names. It answers Option: a TryFrom would need an error type that says nothing.
     pub fn of(text: &[u8]) -> Option<ContractType>
         ensures { result ≡ type_form text.now }
     {
@@ -59,16 +58,3 @@ impl ContractType {
 // An option style: one capital letter, or none where the field is blank.
 #[derive(Clone, Copy)]
 pub struct OptionStyle(pub(crate) Option<u8>);
-
-impl OptionStyle {
-    // The style that a text names.
-    pub(crate) fn of(text: &[u8]) -> Option<OptionStyle>
-        ensures { result ≡ style_said text.now }
-    {
-        match text {
-            [] => Some(OptionStyle(None)),
-            [b] if b.is_ascii_uppercase() => Some(OptionStyle(Some(*b))),
-            _ => None,
-        }
-    }
-}

@@ -1,17 +1,10 @@
 -- The files of a list, and what calls make of them.
-use Rattle.std.specs.Prelude.{ℕ, Bool, cond, List, [], ◌∷◌, ◌++◌, is_some, slice_index_or, slice_set}
+use Rattle.std.specs.Prelude.{ℕ, Bool, cond, List, [], ◌∷◌, ◌++◌, is_some, slice_set}
 use Rattle.text.specs.Bytes.{Bytes, value}
 use Rattle.text.specs.Rows.{first_fit}
 use Rattle.filing.specs.Names.{name_form, naming_rows}
 use Rattle.filing.specs.Files.{Identified, Ended, File, named_file, at_stage, identifying_rows, withdrawing_rows, closing_rows, taking_rows, one_accepted, one_refused}
-
--- what stands where no file does: nothing can be done with it
-abbrev pub no_file : File
-no_file = at_stage Ended (named_file [])
-
--- the file of a number, in the order of naming from 0
-abbrev pub file_of : List File → ℕ → File
-file_of fs n = slice_index_or fs n no_file
+pub use Rattle.filing.specs.Files.{no_file, file_of}
 
 -- a line judged in a file counts there, unless the file takes none
 abbrev pub counted : Bool → File → File

@@ -13,7 +13,7 @@ use crate::held::HeldFile;
 use crate::receipt::Receipt;
 use crate::stage::Stage;
 use filing::EntityList;
-use text::{Text, same_bytes};
+use text::Text;
 
 // The most lines judged in a file.
 const MOST_JUDGED: u32 = 1_000_000;
@@ -65,7 +65,7 @@ impl HeldFile {
         if !entities.knows(code) {
             return Err(IdentifyFault::Entity);
         }
-        if !same_bytes(self.entity.as_slice(), code) {
+        if self.entity.as_slice() != code {
             return Err(IdentifyFault::Entity);
         }
         Ok(())

@@ -1,5 +1,5 @@
 -- Files: first named, then identified, then ended by closing, or by withdrawing where they were only named.
-use Rattle.std.specs.Prelude.{ℕ, suc, Bool, true, false, not, ◌||◌, List, [], ◌∷◌, nat_le}
+use Rattle.std.specs.Prelude.{ℕ, suc, Bool, true, false, not, ◌||◌, List, [], ◌∷◌, nat_le, slice_index_or}
 use Rattle.std.specs.Str.{bytes_eq}
 use Rattle.text.specs.Bytes.{Bytes, among}
 use Rattle.text.specs.Rows.{Row, row}
@@ -21,6 +21,14 @@ named_file code = record { stage = Named; entity = code; judged = 0; accepted = 
 
 abbrev pub at_stage : Stage → File → File
 at_stage s f = record { stage = s; entity = f.entity; judged = f.judged; accepted = f.accepted; refused = f.refused }
+
+-- what stands where no file does: nothing can be done with it
+abbrev pub no_file : File
+no_file = at_stage Ended (named_file [])
+
+-- the file of a number, in the order of naming from 0
+abbrev pub file_of : List File → ℕ → File
+file_of fs n = slice_index_or fs n no_file
 
 abbrev pub only_named : Stage → Bool
 only_named Named = true

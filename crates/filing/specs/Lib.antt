@@ -1,5 +1,4 @@
 pub mod Codes
-pub mod Cut
 pub mod Entities
 pub mod Faults
 pub mod Files

@@ -1,11 +1,10 @@
 // Names of files.
 ghost use Rattle.std.specs.Prelude.{◌≡◌, ◌+◌, ◌&&◌, length, take, drop, IfOk};
 ghost use Rattle.filing.specs.Codes.{code_in, naming_in, code_there};
-ghost use Rattle.filing.specs.Cut.{in_two, cut_in};
 ghost use Rattle.filing.specs.Faults.{name_number as number_of};
 ghost use Rattle.filing.specs.Names.{a_date, a_schema, a_version, a_last, naming};
 
-use text::{Digits, LettersOrDigits, all_of, is_code, same_bytes, span_to};
+use text::{Digits, LettersOrDigits, all_of, is_code};
 
 // Why a file is not named.
 #[derive(Clone, Copy, PartialEq, Eq, Debug)]
@@ -30,27 +29,6 @@ impl NameFault {
 pub struct EntityCode<'a> {
     pub text: &'a [u8],
     pub at: usize,
-}
-
-// A text cut in two at a separator.
-#[derive(Clone, Copy)]
-struct Cut<'a> {
-    front: &'a [u8],
-    rest: &'a [u8],
-}
-
-// The text before the first `_`, and what follows it. A slice's `splitn` would give the parts one by one all the same, and each as an `Option`.
-fn first_cut<'a>(text: &'a [u8]) -> Option<Cut<'a>>
-    ensures { cut_in result ≡ in_two 95 text.now }
-{
-    let n = span_to(text, b'_');
-    if n == text.len() {
-        return None;
-    }
-    Some(Cut {
-        front: &text[0..n],
-        rest: &text[n + 1..],
-    })
 }
 
 // Eight digits.
@@ -95,19 +73,24 @@ fn surround_code(date: &[u8], schema: &[u8], version: &[u8], last: &[u8]) -> boo
 fn code_in<'a>(name: &'a [u8]) -> Option<EntityCode<'a>>
     ensures { code_in result ≡ code_there name.now }
 {
-    let date = first_cut(name)?;
-    let schema = first_cut(date.rest)?;
-    let version = first_cut(schema.rest)?;
-    let code = first_cut(version.rest)?;
-    if !surround_code(date.front, schema.front, version.front, code.rest) {
+    let mut parts = name.split(|b| *b == b'_');
+    let date = parts.next()?;
+    let schema = parts.next()?;
+    let version = parts.next()?;
+    let code = parts.next()?;
+    let last = parts.next()?;
+    if parts.next().is_some() {
         return None;
     }
-    if !is_code(code.front) {
+    if !surround_code(date, schema, version, last) {
+        return None;
+    }
+    if !is_code(code) {
         return None;
     }
     Some(EntityCode {
-        text: code.front,
-        at: date.front.len() + schema.front.len() + version.front.len() + 3,
+        text: code,
+        at: date.len() + schema.len() + version.len() + 3,
     })
 }
 

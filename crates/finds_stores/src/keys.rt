@@ -24,32 +24,36 @@ pub(crate) fn fill<S: Store>(store: &mut S, held: u32) {
     }
 }
 
-// One of `among` numbers below `held` that are evenly spread.
-fn spread(number: u32, held: u32, among: u32) -> u32 {
-    if among == 0 {
-        return 0;
-    }
-    (number % among).wrapping_mul(held / among)
+// How many keys are held, and among how many of them, evenly spread, finds go.
+#[derive(Clone, Copy)]
+pub(crate) struct Spread {
+    pub(crate) held: u32,
+    pub(crate) among: u32,
 }
 
-// Keys of `among` of the numbers below `held`, evenly spread, in an order without a pattern.
-pub(crate) fn queries(
-    heap: Global,
-    finds: usize,
-    held: u32,
-    among: u32,
-) -> Result<Vec<Key>, AllocError> {
-    let mut keys = Vec::new(heap);
-    let mut state: u64 = 1;
-    for _ in 0..finds {
-        state = state
-            .wrapping_mul(6364136223846793005)
-            .wrapping_add(1442695040888963407);
-        if let Some(key) = key_of(spread((state >> 33) as u32, held, among)) {
-            keys.push(key)?;
+impl Spread {
+    // One of the numbers that finds go among.
+    fn one(self, number: u32) -> u32 {
+        if self.among == 0 {
+            return 0;
         }
+        (number % self.among).wrapping_mul(self.held / self.among)
     }
-    Ok(keys)
+
+    // So many keys of those numbers, in an order without a pattern.
+    pub(crate) fn queries(self, heap: Global, finds: usize) -> Result<Vec<Key>, AllocError> {
+        let mut keys = Vec::new(heap);
+        let mut state: u64 = 1;
+        for _ in 0..finds {
+            state = state
+                .wrapping_mul(6364136223846793005)
+                .wrapping_add(1442695040888963407);
+            if let Some(key) = key_of(self.one((state >> 33) as u32)) {
+                keys.push(key)?;
+            }
+        }
+        Ok(keys)
+    }
 }
 
 // The sum of the times of the lives found.

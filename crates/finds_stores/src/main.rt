@@ -5,7 +5,7 @@
 mod keys;
 
 use chained::{Chained, Slot};
-use keys::{fill, find_all, key_of, queries};
+use keys::{Spread, fill, find_all, key_of};
 use life::{Key, Life, Store};
 use ordered::{Entry, Ordered};
 use std::time::Instant;
@@ -30,13 +30,8 @@ fn timed<S: Store>(rt: HostRuntime, store: &S, wanted: &[Key], rounds: usize) ->
 }
 
 // Finds keys in both stores, and times so many rounds of that, if any.
-fn run(
-    rt: HostRuntime,
-    held: u32,
-    among: u32,
-    finds: usize,
-    rounds: Option<usize>,
-) -> io::Result<()> {
+fn run(rt: HostRuntime, spread: Spread, finds: usize, rounds: Option<usize>) -> io::Result<()> {
+    let Spread { held, among } = spread;
     let heap = rt.alloc();
     let Some(key) = key_of(0) else {
         return Ok(());
@@ -44,7 +39,7 @@ fn run(
     let Some(life) = Life::new(0, 0, None) else {
         return Ok(());
     };
-    let wanted = queries(heap, finds, held, among)?;
+    let wanted = spread.queries(heap, finds)?;
     let mut slots = vec![in heap; Slot {
         head: 0,
         next: 0,
@@ -72,8 +67,16 @@ fn main(rt: HostRuntime) -> io::Result<()> {
         .skip(1)
         .filter_map(|text| text.as_str().parse::<u16>().ok());
     let Some(held) = numbers.find(|n| *n > 0) else {
-        return run(rt, 40, 40, 1000, None);
+        let spread = Spread {
+            held: 40,
+            among: 40,
+        };
+        return run(rt, spread, 1000, None);
     };
     let among = numbers.last().unwrap_or(held);
-    run(rt, u32::from(held), u32::from(among), FINDS, Some(ROUNDS))
+    let spread = Spread {
+        held: u32::from(held),
+        among: u32::from(among),
+    };
+    run(rt, spread, FINDS, Some(ROUNDS))
 }

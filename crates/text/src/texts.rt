@@ -67,7 +67,8 @@ impl<const N: usize> Default for Text<N> {
     }
 }
 
-// Whether two texts are the same: the named promise beside the `==` of slices.
+// Whether two texts are the same: the named promise beside the `==` of slices. No crate here calls it, but what a public function promises may
+// not go.
 pub fn same_bytes(a: &[u8], b: &[u8]) -> bool
     ensures { result ≡ bytes_eq a.now b.now }
 {
