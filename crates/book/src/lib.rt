@@ -107,8 +107,5 @@ pub fn brings_weight<V>(state: State) -> bool
     ensures totals { TotalsLaw V }
 {
     totals_stand::<V>();
-    match state {
-        State::Open => true,
-        State::Cancelled => false,
-    }
+    matches!(state, State::Open)
 }

@@ -28,7 +28,7 @@ impl From<ReadFault> for ContractFault {
     }
 }
 
-// Written out for each enum: they share no method but `number` and `field`, and a trait of these two would be no shorter.
+// Written out for each enum: `code` answers in different ways and `offset` is of one alone, and a trait of `number` and `field` would be no shorter.
 impl ContractFault {
     // The published number.
     pub fn number(&self) -> u8

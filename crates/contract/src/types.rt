@@ -55,6 +55,7 @@ impl ContractType {
     }
 }
 
-// An option style: one capital letter, or none where the field is blank.
+// An option style: one capital letter, or none where the field is blank. A type of its own, since a field's form is a trait of another crate, as `Option`
+// is.
 #[derive(Clone, Copy)]
 pub struct OptionStyle(pub(crate) Option<u8>);

@@ -32,7 +32,7 @@ impl FileList {
         self.files.as_slice().len()
     }
 
-    // Makes places for more files, so that naming them wants no memory.
+    // Makes places for more files, so that naming them wants no memory. Places are never given back: `kept` says so of each call that may make some.
     pub fn reserve(&mut self, more: usize) -> Result<(), AllocError>
         ensures list { self.new.files ≡ self.old.files }
         ensures room { OnOk result (length self.old.files + more ≤ self.new.places) }

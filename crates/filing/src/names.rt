@@ -31,6 +31,7 @@ pub struct EntityCode<'a> {
     pub at: usize,
 }
 
+// A length and a class, as in the two after it and in ids: a function of both would take a class and two numbers, and say no more.
 // Eight digits.
 fn is_date(text: &[u8]) -> bool
     ensures { result ≡ a_date text.now }

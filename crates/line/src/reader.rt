@@ -59,7 +59,7 @@ fn lacks_form(start: Place) -> ReadFault
     }
 }
 
-// A value that a field writes by its form. Each type's function asks its parser, which stands with the type.
+// A value that a field writes by its form. Each type's function asks its parser, or is it.
 pub trait FieldForm {
     ghost form: { List ℕ → Option Self };
 

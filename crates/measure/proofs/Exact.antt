@@ -1,9 +1,10 @@
 -- Over at most 65,535 lives no sum of the position sheet wraps.
-use Rattle.std.proofs.Common.{◌≡◌, ℕ, suc, ◌+◌, ◌-◌, ◌*◌, ◌%◌, ◌^◌, ◌<◌, ◌≤◌, true, false, cond, eqb, List, [], ◌∷◌, length, ℤ, pos, negsuc, ◌+ℤ◌, refl, ap, ◌∙◌, ⊎_elim, arith, w64, to_z}
+use Rattle.std.proofs.Common.{◌≡◌, ℕ, suc, ◌+◌, ◌-◌, ◌*◌, ◌%◌, ◌^◌, ◌<◌, ◌≤◌, true, false, cond, ◌&&◌, eqb, ltb, leb, List, [], ◌∷◌, length, ℤ, pos, negsuc, ◌+ℤ◌, refl, ap, ◌∙◌, ⊎_elim, arith, w64, to_z}
 use lib.ListN.{length-map}
 use Rattle.std.specs.List.{AllByRecursion}
 use Rattle.std.proofs.lemmas.Int.{ints, to_z-of_z}
-use Rattle.std.proofs.lemmas.Bool.{cases_lt, ne_eqb}
+use Rattle.std.proofs.lemmas.Bool.{cases_lt, ne_eqb, and_from, and_parts}
+use Rattle.std.proofs.lemmas.Bool.Decides.{nat_tests}
 use Rattle.text.specs.declared.words.Kind.{Kind}
 use Rattle.text.specs.declared.words.Kind.TheVariants.{Order, Trade}
 use Rattle.text.specs.declared.words.Side.{Side}
@@ -14,7 +15,7 @@ use Rattle.life.specs.declared.life.State.TheVariants.{Open, Cancelled}
 use Rattle.measure.specs.declared.sheet.Sheet.{Sheet}
 use Rattle.life.specs.Lives.{Pair, Lives, plain_pair, plain}
 use Rattle.measure.specs.Totals.{while_open, share, total_of}
-use Rattle.measure.specs.Positions.{traded, brought, true_position, Within}
+use Rattle.measure.specs.Positions.{traded, brought, true_position, Within, all_within}
 use Rattle.measure.specs.Sheets.{cell, position_of, no_sheet, added, residue, sheet_weight}
 use Rattle.measure.specs.Laws.{cell_sheet}
 use Rattle.measure.proofs.Cells.{cell_past, cell_added, cell_none, residue_minus}
@@ -102,9 +103,27 @@ exact n ps few w s e =
     ∙ reads _ _ (length ps * most) ((total_of no_sheet added sheet_weight ps).fit n) (omega arith) (all_stand n ps w)
 
 -- the pairs that code holds are within bounds, by what keys and lives keep
+pub plain_all_within : (ps : List (Key × Life)) → all_within (plain ps) ≡ true
+plain_all_within [] = refl
+plain_all_within (p ∷ ps) =
+    let l : p.0.contract < 64 = p.0.listed in
+    let q : p.1.quantity ≤ 1000000000000 = p.1.bounded in
+    let c : ltb p.0.contract 64 ≡ true = grind (arith, nat_tests) in
+    let b : leb p.1.quantity 1000000000000 ≡ true = grind (arith, nat_tests) in
+    and_from _ _ (and_from _ _ c b) (plain_all_within ps)
+
+-- what the test of bounds tells
+pub within_from : (ps : Lives) → all_within ps ≡ true → AllByRecursion Within ps
+within_from [] e = tt
+within_from (p ∷ ps) e =
+    let h = and_parts (ltb p.0.of_contract 64 && leb p.1.with_quantity 1000000000000) (all_within ps) e in
+    let k = and_parts (ltb p.0.of_contract 64) (leb p.1.with_quantity 1000000000000) h.0 in
+    let l : ltb p.0.of_contract 64 ≡ true = k.0 in
+    let q : leb p.1.with_quantity 1000000000000 ≡ true = k.1 in
+    (record { listed = grind (arith, nat_tests); bounded = grind (arith, nat_tests) }, within_from ps h.1)
+
 pub plain_within : (ps : List (Key × Life)) → AllByRecursion Within (plain ps)
-plain_within [] = tt
-plain_within (p ∷ ps) = (record { listed = p.0.listed; bounded = p.1.bounded }, plain_within ps)
+plain_within ps = within_from (plain ps) (plain_all_within ps)
 
 pub exact_plain : (n : ℕ) (ps : List (Key × Life)) → length ps ≤ 65535 → (s : Sheet) → s ≡ total_of no_sheet added sheet_weight (plain ps) → position_of s n ≡ true_position n (plain ps)
 exact_plain n ps few s e = exact n (plain ps) (omega (arith, length-map ps plain_pair)) (plain_within ps) s e

@@ -1,5 +1,5 @@
 -- The position of a contract as a sum of integers, with no width.
-use Rattle.std.specs.Prelude.{ℕ, ◌<◌, ◌≤◌, cond, ℤ, pos, ◌+ℤ◌, neg_ℤ, ◌==◌}
+use Rattle.std.specs.Prelude.{ℕ, ◌<◌, ◌≤◌, Bool, true, cond, ◌&&◌, [], ◌∷◌, ℤ, pos, ◌+ℤ◌, neg_ℤ, ◌==◌, nat_lt, nat_le}
 use Rattle.text.specs.declared.words.Kind.{Kind}
 use Rattle.text.specs.declared.words.Kind.TheVariants.{Order, Trade}
 use Rattle.text.specs.declared.words.Side.{Side}
@@ -26,3 +26,8 @@ true_position n ps = total_of (pos 0) ◌+ℤ◌ (brought n) ps
 pub record Within (p : Pair) : Type 0 where
   pub listed : p.0.of_contract < 64
   pub bounded : p.1.with_quantity ≤ 1000000000000
+
+-- whether all pairs are
+abbrev pub all_within : Lives → Bool
+all_within [] = true
+all_within (p ∷ ps) = (nat_lt p.0.of_contract 64 && nat_le p.1.with_quantity 1000000000000) && all_within ps

@@ -53,7 +53,7 @@ pub enum Action {
 }
 
 impl Action {
-    // One of the letters N, M, E and C.
+    // One of the letters N, M, E and C. A rule of the project: the letter is matched as a character.
     pub fn of(text: &[u8]) -> Option<Action>
         ensures { result ≡ action_form text.now }
     {

@@ -1,9 +1,5 @@
-use Rattle.std.proofs.Common.{subst}
-use Rattle.std.specs.List.{AllByRecursion}
-use Rattle.measure.specs.Positions.{Within}
-use Rattle.measure.proofs.Exact.{plain_within}
-use Rattle.register.specs.Held.{Held}
+use Rattle.measure.proofs.Exact.{within_from}
 use Rattle.register.proofs.register.Register.total.Goals as goal
 
 pub returns-clause-bounded : goal.returns-clause-bounded
-returns-clause-bounded g c = subst (λ (h : Held _). AllByRecursion Within h.lives) c.self.view_is (plain_within (g.S.Store.pairs c.self.inside.store.now))
+returns-clause-bounded g c = within_from c.args.self.now.lives c.args.self.now.bounded
