@@ -226,7 +226,7 @@ fn name_case(rng: &mut Rng, entity: &[u8]) -> Text {
     match rng.below(9) {
         0 => parts[0] = rng.text(&[b"2015071", b"201507150", b"2015O715", b"", b"2015-715", b" 0150715", b"0000000:"]),
         1 => parts[1] = rng.text(&[b"", b"A-1", b"A_1", b"A 1", b"\xC3\xA4", b"@", b"[", b"`", b"{", b"a.", b"A\0"]),
-        2 => parts[2] = rng.text(&[b"V", b"V12", b"v1", b"1", b"VA", b"", b"V:", b"V/", b"1V", b"V 1", b"W1"]),
+        2 => parts[2] = rng.text(&[b"V", b"V12", b"v1", b"1", b"VA", b"", b"V:", b"V/", b"1V", b"V 1", b"U9"]),
         3 => parts[3] = acer_case(rng, entity),
         4 => {
             parts[4] = rng.text(&[
@@ -291,7 +291,7 @@ struct Mix {
     renewal: usize,
 }
 
-/// The mix goes by the seed modulo 8.
+/// The mix goes by the remainder of the starting number by 8.
 const MIXES: [Mix; 8] = [
     // Good lines over few keys; over more keys; and over so many that the register is full.
     Mix { weights: [930, 8, 3, 2, 1, 6, 45, 4, 1], keys: (2, 12), misfit: 8, falling: 3, renewal: 3 },
