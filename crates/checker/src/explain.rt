@@ -63,7 +63,7 @@ fn rule(number: u16) -> &'static str {
         20 =>
             "a price is blank, or a number of 1 to 7 digits, if need be with a dot and 1 to 5 digits, at most 1000000 either way",
         21 => "index names are 0 to 8 names separated by commas",
-        31 => "outside a market place (XBIL) a contract has to be listed",
+        31 => "at a venue other than XBIL the contract has to be listed",
         _ => other_rule(number),
     }
 }
@@ -90,7 +90,7 @@ fn other_rule(number: u16) -> &'static str {
         64 =>
             "a file's name is a date, a schema, a version, an entity's code and a number, joined by _ and followed by .xml",
         65 => "a file is identified by the known entity that its name gives",
-        _ => "a line of input is a command that goes with the file that is open",
+        _ => "a line of input is a known command, and one that goes with the file in hand",
     }
 }
 
