@@ -12,7 +12,7 @@ mod file_calls;
 mod lines;
 mod lists;
 mod positions;
-mod replies;
+pub mod replies;
 mod runs;
 
 pub use answer::{Answer, Given, Reply};

@@ -17,7 +17,7 @@ use std::alloc::AllocError;
 // Each call has an answer of its own in the contracts, so each has its own function here. A `From` for each of the seven faults would be longer
 // than what it would save.
 
-pub(crate) fn of_entity(res: Result<(), EntityFault>) -> Answer
+pub fn of_entity(res: Result<(), EntityFault>) -> Answer
     ensures { answer_said result ≡ entity_answer res }
 {
     match res {
@@ -26,7 +26,7 @@ pub(crate) fn of_entity(res: Result<(), EntityFault>) -> Answer
     }
 }
 
-pub(crate) fn of_contract(res: Result<u8, ContractFault>) -> Answer
+pub fn of_contract(res: Result<u8, ContractFault>) -> Answer
     ensures { answer_said result ≡ contract_answer res }
 {
     match res {
@@ -55,7 +55,7 @@ pub(crate) fn of_identifying(res: Result<(), IdentifyFault>) -> Answer
     }
 }
 
-pub(crate) fn of_ending(res: Result<Receipt, PlaceFault>) -> Answer
+pub fn of_ending(res: Result<Receipt, PlaceFault>) -> Answer
     ensures { answer_said result ≡ ending_answer res }
 {
     match res {
@@ -64,7 +64,7 @@ pub(crate) fn of_ending(res: Result<Receipt, PlaceFault>) -> Answer
     }
 }
 
-pub(crate) fn of_judging(res: Result<(), JudgeFault>) -> Answer
+pub fn of_judging(res: Result<(), JudgeFault>) -> Answer
     ensures { answer_said result ≡ judge_answer res }
 {
     match res {

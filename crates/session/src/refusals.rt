@@ -1,8 +1,8 @@
 // Why a line of input is refused.
 ghost use Rattle.std.specs.Prelude.{◌≡◌, Some, None};
 ghost use Rattle.output.specs.Lines.{line_text};
-ghost use Rattle.checker.specs.Refusals.{refusal_number, refusal_field, refusal_offset, refusal_code, refusal_text};
-ghost use Rattle.checker.specs.declared.refusals.Refusal.TheVariants.{Unread, Refused};
+ghost use Rattle.session.specs.Refusals.{refusal_number, refusal_field, refusal_offset, refusal_code, refusal_text};
+ghost use Rattle.session.specs.declared.refusals.Refusal.TheVariants.{Unread, Refused};
 
 use calls::Fault;
 use commands::CommandFault;

@@ -1,0 +1,4 @@
+pub mod Doing
+pub mod Giving
+pub mod InputLines
+pub mod Measures

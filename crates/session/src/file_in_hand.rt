@@ -1,0 +1,108 @@
+// The file in hand, by its token, and what a command does with it.
+ghost use Rattle.std.specs.Prelude.{◌≡◌, Some, IfOk, OnErr};
+ghost use Rattle.commands.specs.Commands.{asked};
+ghost use Rattle.book.specs.Book.{NameFile as NameCall, Identify as IdentifyCall};
+ghost use Rattle.calls.specs.Held.{Stays};
+ghost use Rattle.calls.specs.Said.{answer_said};
+ghost use Rattle.session.specs.Session.{call_by, ending, NoFile, OnlyNamed};
+ghost use Rattle.session.specs.Held.{in_hand, told, Does};
+
+use crate::refusals::Refusal;
+use calls::replies::{of_contract, of_ending, of_entity, of_judging};
+use calls::{Answer, Checker, Fault, Given};
+use commands::Command;
+use files::{IdentifiedFile, NamedFile, NamingError};
+use life::Store;
+use measure::Measure;
+use std::alloc::AllocError;
+
+// No file is in hand, or one that is only named, or an identified one. It holds a token, so it can't be let go: each function hands it on.
+pub(crate) enum FileInHand {
+    None,
+    Named(NamedFile),
+    Identified(IdentifiedFile),
+}
+
+// What a command is answered.
+pub(crate) type Told = Result<Given, Refusal>;
+
+// The answer to a call.
+pub(crate) fn answered(answer: Answer) -> Told
+    ensures { told result ≡ answer_said answer }
+{
+    Ok(answer?)
+}
+
+fn name_file<S: Store, M: Measure>(
+    checker: &mut Checker<S, M>,
+    name: &[u8],
+) -> (FileInHand, Result<Told, AllocError>)
+    ensures follows { IfOk result.1 (λ res. Does M.Measure checker.old NoFile (Some (NameCall name.now)) (told res) (in_hand result.0) checker.new) }
+    ensures memory { OnErr result.1 ((in_hand result.0 ≡ NoFile) × Stays M.Measure checker.old checker.new) }
+{
+    match checker.name_file(name) {
+        Ok(file) => (FileInHand::Named(file), Ok(Ok(Given::Accepted))),
+        Err(NamingError::Fault(fault)) => (
+            FileInHand::None,
+            Ok(Err(Refusal::Refused(Fault::Name(fault)))),
+        ),
+        Err(NamingError::NoMemory) => (FileInHand::None, Err(AllocError)),
+    }
+}
+
+fn identify<S: Store, M: Measure>(
+    checker: &mut Checker<S, M>,
+    file: NamedFile,
+    code: &[u8],
+) -> (FileInHand, Told)
+    ensures { Does M.Measure checker.old (OnlyNamed file.number) (Some (IdentifyCall file.number code.now)) (told result.1) (in_hand result.0) checker.new }
+{
+    match checker.identify(file, code) {
+        Ok(file) => (FileInHand::Identified(file), Ok(Given::Accepted)),
+        Err((fault, file)) => (
+            FileInHand::Named(file),
+            Err(Refusal::Refused(Fault::Identify(fault))),
+        ),
+    }
+}
+
+impl FileInHand {
+    // What a command does: the file that is in hand then, and what is answered.
+    pub(crate) fn follow<S: Store, M: Measure>(
+        self,
+        checker: &mut Checker<S, M>,
+        command: Command,
+    ) -> (FileInHand, Result<Told, AllocError>)
+        ensures follows { IfOk result.1 (λ res. Does M.Measure checker.old (in_hand self) (call_by (in_hand self) (asked command.entry)) (told res) (in_hand result.0) checker.new) }
+        ensures memory { OnErr result.1 ((in_hand result.0 ≡ in_hand self) × Stays M.Measure checker.old checker.new) }
+    {
+        let (file, told) = match (command, self) {
+            (Command::NameFile(name), FileInHand::None) => return name_file(checker, name),
+            (Command::AddEntity(code), file) => {
+                (file, answered(of_entity(checker.add_entity(code))))
+            }
+            (Command::AddContract(text), file) => {
+                (file, answered(of_contract(checker.add_contract(text))))
+            }
+            (Command::Identify(code), FileInHand::Named(file)) => identify(checker, file, code),
+            (Command::Judge(line), FileInHand::Identified(file)) => {
+                let answer = of_judging(checker.judge(&file, line));
+                (FileInHand::Identified(file), answered(answer))
+            }
+            (Command::EndFile, file) => (FileInHand::None, file.end(checker)),
+            (_, file) => (file, Err(Refusal::OutOfPlace)),
+        };
+        (file, Ok(told))
+    }
+
+    // Ends the file that is in hand, if one is.
+    pub(crate) fn end<S: Store, M: Measure>(self, checker: &mut Checker<S, M>) -> Told
+        ensures { Does M.Measure checker.old (in_hand self) (ending (in_hand self)) (told result) NoFile checker.new }
+    {
+        match self {
+            FileInHand::None => Err(Refusal::OutOfPlace),
+            FileInHand::Named(file) => answered(of_ending(checker.withdraw(file))),
+            FileInHand::Identified(file) => answered(of_ending(checker.close(file))),
+        }
+    }
+}

@@ -1,0 +1,49 @@
+// What a line of input is answered.
+ghost use Rattle.std.specs.Prelude.{◌≡◌, IfOk, OnErr};
+ghost use Rattle.calls.specs.Held.{Stays};
+ghost use Rattle.session.specs.Held.{in_hand, Answers, TellsHeld};
+
+use crate::file_in_hand::{FileInHand, Told};
+use crate::refusals::Refusal;
+use calls::Checker;
+use commands::Command;
+use life::{CONTRACTS, Store};
+use measure::{Both, CheckWord, Measure, Sheet};
+use std::alloc::AllocError;
+
+// Positions and a check word.
+pub type Totals = Both<Sheet, CheckWord>;
+
+// The answer to a call or its refusal, the positions of all contracts, or the check word.
+#[derive(Clone, Copy)]
+pub(crate) enum Reply {
+    Told(Told),
+    Positions([i64; CONTRACTS]),
+    CheckWord(u64),
+}
+
+impl FileInHand {
+    // Answers a line of input: the file that is in hand then, and the reply; or nothing, for want of memory, and nothing changes.
+    pub(crate) fn answer<S: Store>(
+        self,
+        checker: &mut Checker<S, Totals>,
+        line: &[u8],
+    ) -> (FileInHand, Result<Reply, AllocError>)
+        ensures follows { IfOk result.1 (λ reply. Answers ⟦<Both<Sheet, CheckWord> as Measure>⟧ checker.old (in_hand self) line.now reply (in_hand result.0) checker.new) }
+        ensures held { IfOk result.1 (λ reply. TellsHeld ⟦<Both<Sheet, CheckWord> as Measure>⟧ checker.old reply) }
+        ensures memory { OnErr result.1 ((in_hand result.0 ≡ in_hand self) × Stays ⟦<Both<Sheet, CheckWord> as Measure>⟧ checker.old checker.new) }
+    {
+        match Command::read(line) {
+            Err(fault) => (self, Ok(Reply::Told(Err(Refusal::Unread(fault))))),
+            Ok(Command::Positions) => (self, Ok(Reply::Positions(checker.positions()))),
+            Ok(Command::CheckWord) => {
+                let (_, word) = checker.total().parts();
+                (self, Ok(Reply::CheckWord(word.word)))
+            }
+            Ok(command) => match self.follow(checker, command) {
+                (file, Ok(told)) => (file, Ok(Reply::Told(told))),
+                (file, Err(AllocError)) => (file, Err(AllocError)),
+            },
+        }
+    }
+}
