@@ -2,16 +2,14 @@
 // that was given all lines and of the one that was given the survivors alone.
 #![tactic(auto)]
 
-mod calls_of;
-
 use calls::{Call, CompletedRun};
-use calls_of::calls_of;
 use chained::Chained;
 use commands::{SLOTS, free_slots, slots_of};
 use life::Store;
 use measure::{Both, CheckWord, Sheet};
 use output::{AnswerLine, write_positions};
 use resends::{ResendError, resend};
+use session::calls_of_input;
 use std::alloc::{AllocError, Global};
 use std::io::{Read, Write};
 use std::process::ExitCode;
@@ -41,11 +39,11 @@ fn put_totals<S: Store>(
 
 // The text that is printed for an input.
 fn text_of(heap: Global, input: &[u8], slots: usize) -> Result<Vec<u8>, ResendError> {
-    let calls = calls_of(heap, input)?;
     let mut table = free_slots(heap, slots)?;
     let mut store = Chained::new(&mut table);
     let mut other_table = free_slots(heap, slots)?;
     let mut other = Chained::new(&mut other_table);
+    let calls = calls_of_input(heap, &mut store, input)?;
     let resent = resend(heap, &mut store, &mut other, &calls)?;
     let mut out = Vec::new(heap);
     for call in &resent.left {

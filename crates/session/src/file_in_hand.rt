@@ -1,15 +1,15 @@
 // The file in hand, by its token, and what a command does with it.
-ghost use Rattle.std.specs.Prelude.{◌≡◌, Some, IfOk, OnErr};
+ghost use Rattle.std.specs.Prelude.{◌≡◌, Some, IfOk, OnErr, option_map};
 ghost use Rattle.commands.specs.Commands.{asked};
 ghost use Rattle.book.specs.Book.{NameFile as NameCall, Identify as IdentifyCall};
 ghost use Rattle.calls.specs.Held.{Stays};
-ghost use Rattle.calls.specs.Said.{answer_said};
-ghost use Rattle.session.specs.Session.{call_by, ending, NoFile, OnlyNamed};
+ghost use Rattle.calls.specs.Said.{answer_said, call_said};
+ghost use Rattle.session.specs.Session.{call_by, call_of_line, ending, NoFile, OnlyNamed};
 ghost use Rattle.session.specs.Held.{in_hand, told, Does};
 
 use crate::refusals::Refusal;
 use calls::replies::{of_contract, of_ending, of_entity, of_judging};
-use calls::{Answer, Checker, Fault, Given};
+use calls::{Answer, Call, Checker, Fault, Given};
 use commands::Command;
 use files::{IdentifiedFile, NamedFile, NamingError};
 use life::Store;
@@ -93,6 +93,36 @@ impl FileInHand {
             (_, file) => (file, Err(Refusal::OutOfPlace)),
         };
         (file, Ok(told))
+    }
+
+    // The call that ends the file that is in hand, if one is.
+    pub(crate) fn ending(&self) -> Option<Call<'static>>
+        ensures { option_map call_said result ≡ ending (in_hand self.now) }
+    {
+        match self {
+            FileInHand::None => None,
+            FileInHand::Named(file) => Some(Call::Withdraw(file.number())),
+            FileInHand::Identified(file) => Some(Call::Close(file.number())),
+        }
+    }
+
+    // The call that a line of input makes, if it makes one.
+    pub(crate) fn call_of<'c>(&self, line: &'c [u8]) -> Option<Call<'c>>
+        ensures { option_map call_said result ≡ call_of_line (in_hand self.now) line.now }
+    {
+        match (Command::read(line).ok()?, self) {
+            (Command::AddEntity(code), _) => Some(Call::AddEntity(code)),
+            (Command::AddContract(text), _) => Some(Call::AddContract(text)),
+            (Command::NameFile(name), FileInHand::None) => Some(Call::NameFile(name)),
+            (Command::Identify(code), FileInHand::Named(file)) => {
+                Some(Call::Identify(file.number(), code))
+            }
+            (Command::Judge(line), FileInHand::Identified(file)) => {
+                Some(Call::Judge(file.number(), line))
+            }
+            (Command::EndFile, _) => self.ending(),
+            _ => None,
+        }
     }
 
     // Ends the file that is in hand, if one is.

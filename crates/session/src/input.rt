@@ -1,15 +1,18 @@
 // A whole input, line by line.
-ghost use Rattle.std.specs.Prelude.{OnOk};
+ghost use Rattle.std.specs.Prelude.{◌≡◌, ◌++◌, IfOk, OnOk, option_map};
+ghost use Rattle.book.specs.Book.{empty_book};
+ghost use Rattle.calls.specs.Said.{call_said, calls_said};
 ghost use Rattle.session.specs.Held.{GivenInput};
+ghost use Rattle.session.specs.Session.{listed, calls_of_input};
 
 use crate::file_in_hand::FileInHand;
 use crate::lines::Lines;
 use crate::printer::Printer;
 use crate::reply::Totals;
-use calls::Checker;
+use calls::{Call, Checker};
 use life::Store;
 use measure::{Both, CheckWord, Measure, Sheet};
-use std::alloc::AllocError;
+use std::alloc::{AllocError, Global};
 use std::io;
 
 // Answers each line of an input on standard output, and ends the file that is in hand at last. Where all was written, the calls that the lines make
@@ -42,4 +45,44 @@ pub fn answer_all<S: Store>(
         file => printer.told(file.end(checker))?,
     }
     printer.flush()
+}
+
+// Puts a call, if there is one, at the end of a list.
+fn note<'c>(calls: &mut Vec<Call<'c>>, call: Option<Call<'c>>) -> Result<(), AllocError>
+    ensures { OnOk result (calls_said calls.new.items ≡ calls_said calls.old.items ++ listed (option_map call_said call.entry)) }
+{
+    if let Some(call) = call {
+        calls.push(call)?;
+    }
+    Ok(())
+}
+
+// The calls that the lines of an input make on a new checker, and the one that ends the file that is in hand at last. The store is used for the checker.
+pub fn calls_of_input<'c, S: Store>(
+    heap: Global,
+    store: &mut S,
+    input: &'c [u8],
+) -> Result<Vec<Call<'c>>, AllocError>
+    ensures { IfOk result (λ calls. calls_said calls.items ≡ calls_of_input (empty_book (S.room store.old)) input.now) }
+{
+    let mut checker = Checker::<S, Totals>::new(heap, store)?;
+    let mut calls = Vec::new(heap);
+    let mut file = FileInHand::None;
+    for line in Lines::of(input) {
+        let call = file.call_of(line);
+        let (next, reply) = file.answer(&mut checker, line);
+        file = next;
+        let noted = match reply {
+            Ok(_) => note(&mut calls, call),
+            Err(error) => Err(error),
+        };
+        if let Err(error) = noted {
+            let _ = file.end(&mut checker);
+            return Err(error);
+        }
+    }
+    let noted = note(&mut calls, file.ending());
+    let _ = file.end(&mut checker);
+    noted?;
+    Ok(calls)
 }

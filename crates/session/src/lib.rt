@@ -9,6 +9,6 @@ mod printer;
 mod refusals;
 mod reply;
 
-pub use input::answer_all;
+pub use input::{answer_all, calls_of_input};
 pub use refusals::Refusal;
 pub use reply::Totals;

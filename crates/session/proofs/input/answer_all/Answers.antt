@@ -4,7 +4,7 @@ use Rattle.calls.specs.Follows.{book_after}
 use Rattle.calls.specs.Held.{Led}
 use Rattle.session.specs.Session.{call_of_line, in_hand_after, ending, listed, lines_of}
 use Rattle.session.specs.Held.{in_hand, Answers, GivenInput}
-use Rattle.session.proofs.Giving.{under_next, under_all}
+use Rattle.session.proofs.Giving.{under_line, under_all}
 use Rattle.session.proofs.Measures.{both_totals}
 use Rattle.session.proofs.input.answer_all.Goals as goal
 use Rattle.session.proofs.input.answer_all.Goals.{in-Ok, in-Err, in-None-file, in_default-file+in_ok-told-in_default-file}
@@ -17,7 +17,7 @@ loop-line-preserved g c =
     let is = c.answer-next.new.checker in
     let next = in_hand c.answer-next.result.0 in
     let follows : IfOk c.answer-next.result.1 (λ reply. Answers both_totals was file line reply next is) = c.answer-next.ensures.follows in
-    under_next both_totals c.args.checker.now was is c.args.input.now file next c.loop-line.line-iterator.rest.now line c.next.new.self.rest.now c.in-Some.ensures.steps c.loop-line.invariant
+    under_line both_totals c.args.checker.now was is c.args.input.now file next c.loop-line.line-iterator.rest.now line c.next.new.self.rest.now c.in-Some.ensures.steps c.loop-line.invariant
     (elim c.match-reply.branch [
       | in-Ok w ↦ λ capacity past f. let p = subst (λ r. IfOk r (λ reply. Answers both_totals was file line reply next is)) w.in-Ok.is follows capacity past f in (p.1, p.2)
       | in-Err w ↦ absurd (c.in_default.not-Err _ w.printed-is)
