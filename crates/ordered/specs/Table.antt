@@ -26,7 +26,7 @@ abbrev pub pairs_of : List Entry → ℕ → List (Key × Life)
 pairs_of s zero = []
 pairs_of s (suc c) = ((at s c).key, (at s c).life) ∷ pairs_of s c
 
--- the first c entries rise by their keys
+-- the first c entries, no more than there is room for, rise strictly by their keys
 pub record Sound (s : List Entry) (c : ℕ) : Type 0 where
   pub fits : c ≤ room_of s
   pub rising : (i j : ℕ) → i < j → j < c → Before (at s i).key (at s j).key
