@@ -156,7 +156,8 @@ pub record Emptied (s t : List Slot) : Type 0 where
   pub small : length s ≤ 65536 → Wiped s t
   pub large : 65536 < length s → t ≡ s
 
--- what holds of a store's table: it is sound, no key stands twice, and no more are held than can be
+-- what holds of a store's table: it is sound, no key stands twice, and no more are held than can be; what stands between the bars holds, and nothing
+-- more is kept of it
 pub record Held (s : List Slot) (c : ℕ) : Type 0 where
   pub in_chains : ∥ Whole s c ∥₁
   pub apart : distinct (pairs_of s c) ≡ true
