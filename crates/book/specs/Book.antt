@@ -195,7 +195,7 @@ text_of Total = []
 abbrev pub receipt : File → Answer
 receipt f = Receipt f.judged f.accepted f.refused
 
--- the answer to a call that no row fits
+-- the answer to a call that no row fits; the total itself is told apart (`totals` in Totals.antt)
 abbrev pub granted : Book → Call → Answer
 granted b (AddEntity bs) = Accepted
 granted b (AddContract bs) = Accepted

@@ -31,6 +31,7 @@ judged_lines = map (λ s. (Judge 0 (codes s.0), s.1))
 abbrev pub opened : ℕ → List (String × Answer) → List (Call × Answer) → Case
 opened room ls more = record { before = empty_book room; steps = opening ++ (judged_lines ls ++ more) }
 
+-- lines judged after it, with room for 255 lives
 abbrev pub lines : List (String × Answer) → Case
 lines ls = opened 255 ls []
 

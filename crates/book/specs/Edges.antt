@@ -502,7 +502,7 @@ of_files =
     ∷ [])
     ∷ []
 
--- limits that a short run does not reach, from books that have come close to them
+-- limits of the lists, from books that have come close to them, and of the lengths of ids and names
 abbrev pub of_limits : List Case
 of_limits =
     -- the 32nd entity and the 33rd
@@ -565,12 +565,15 @@ pub record Ending : Type 0 where
 abbrev pub Ends : Ending → Type 0
 Ends x = ((end x.from x.asked_for).lives ≡ x.lives_after) × ((end x.from x.asked_for).files ≡ x.files_after)
 
+-- the key of the trade T below, under contract number n at a venue
 abbrev pub key : ℕ → Bytes → KeyParts
 key n v = record { of_kind = Trade; of_id = codes "T"; of_contract = n; of_venue = v; of_participant = codes "C0643778W.EU"; of_side = Sell }
 
+-- an identified file with n lines judged, a accepted and r refused
 abbrev pub counted : ℕ → ℕ → ℕ → File
 counted n a r = record { stage = Identified; entity = codes "A0000116N.DE"; judged = n; accepted = a; refused = r }
 
+-- a line judged in the first file
 abbrev pub line : String → Call
 line l = Judge 0 (codes l)
 

@@ -105,12 +105,13 @@ SurvivorsLaw = (capacity : ℕ) (calls : List Call) →
 pub data Deed : Type 0 where
   Did : Action → ℕ → ℕ → Option ℤ → Deed
 
--- the accepted lines of the key in a log, in their order
+-- what one call of a log adds to the accepted lines of the key that came after it
 abbrev pub deed : KeyParts → Subject → Option (ℕ × ℕ) → List Deed → List Deed
 deed k no_line v ds = ds
 deed k (a_line q r) (Some n) ds = ds
 deed k (a_line q r) None ds = cond (same_key q k) (Did r.action r.time r.quantity r.price ∷ ds) ds
 
+-- the accepted lines of the key in a log, in their order
 abbrev pub deeds : KeyParts → List Entry → List Deed
 deeds k [] = []
 deeds k (e ∷ es) = deed k e.judging e.refused_by (deeds k es)
@@ -172,12 +173,13 @@ pub record TidyFile (f : File) : Type 0 where
   pub all_counted : f.judged ≡ f.accepted + f.refused
   pub within : f.judged ≤ judged_limit
 
--- the parts of a key and a life that numbers of fixed width hold
+-- a contract number of at most 63, and a quantity of at most 10,000,000 units
 pub record TidyLife (p : Pair) : Type 0 where
   pub numbered_within : p.0.of_contract ≤ contract_limit
   pub quantity_within : p.1.with_quantity ≤ 1_000_000_000_000
 
--- no key twice, no more lives than the capacity, no more entities and contracts than may be listed
+-- the capacity is that of the start; no key twice, no more lives than the capacity, each life and each file tidy, no more entities and contracts than
+-- may be listed
 pub record Tidy (capacity : ℕ) (b : Book) : Type 0 where
   pub as_made : b.capacity ≡ capacity
   pub no_key_twice : Unique b.lives

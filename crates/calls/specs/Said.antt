@@ -73,7 +73,7 @@ abbrev pub contract_answer : Result ℕ ContractFault → book.Answer
 contract_answer (Ok n) = book.Accepted
 contract_answer (Err e) = book.Refused (contract_fault_number e) (contract_fault_field e) (contract_fault_offset e)
 
--- where there was memory for one more file
+-- only where naming did not fail for want of memory is it the answer
 abbrev pub naming_answer : {V : Type 0} → Result V NamingError → book.Answer
 naming_answer (Ok v) = book.Accepted
 naming_answer (Err (Fault e)) = book.Refused (name_number e) 0 0

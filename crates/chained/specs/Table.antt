@@ -31,7 +31,7 @@ abbrev pub pairs_of : List Slot → ℕ → List (Key × Life)
 pairs_of s zero = []
 pairs_of s (suc c) = ((at s (suc c)).key, (at s (suc c)).life) ∷ pairs_of s c
 
--- r is the last place below top whose chain is b, or 0 if there is none
+-- r is the last place below top whose chain, as K says, is b, or 0 if there is none
 pub record Prev (K : ℕ → ℕ) (b top r : ℕ) : Type 0 where
   pub below : r < top
   pub hit : 0 < r → K r ≡ b
@@ -49,7 +49,7 @@ pub record Sound (s : List Slot) (c : ℕ) : Type 0 where
   pub linked : Linked (chain_at s) s c
   pub apart : (i j : ℕ) → 0 < i → i < j → j ≤ c → (at s i).key ≢ (at s j).key
 
--- K with v at i
+-- the chains that K says, but v for the slot i
 abbrev pub re : (ℕ → ℕ) → ℕ → ℕ → ℕ → ℕ
 re K i v m = cond (m == i) v (K m)
 
@@ -135,7 +135,7 @@ pub record Spare (s t : List Slot) (d : ℕ) : Type 0 where
   pub keys : (m : ℕ) → (0 < m → d < m) → (at t m).key ≡ (at s m).key
   pub lives : (m : ℕ) → (0 < m → d < m) → (at t m).life ≡ (at s m).life
 
--- a table s with c slots in use, which is then t with d: it keeps its length and the slots that are not in use, and where
+-- a table s with c slots in use, which is then t with d: it keeps its length and the pairs of the slots that are not in use, and where
 -- `idle` holds nothing is written
 pub record Leaves (s : List Slot) (c : ℕ) (t : List Slot) (d : ℕ) (idle : Type 0) : Type 0 where
   pub size : length t ≡ length s
@@ -156,7 +156,8 @@ pub record Emptied (s t : List Slot) : Type 0 where
   pub small : length s ≤ 65536 → Wiped s t
   pub large : 65536 < length s → t ≡ s
 
--- what holds of a store's table: it is sound, no key stands twice, and no more are held than can be
+-- what holds of a store's table: it is sound, no key stands twice, and no more are held than can be; what stands between the bars holds, and nothing
+-- more is kept of it
 pub record Held (s : List Slot) (c : ℕ) : Type 0 where
   pub in_chains : ∥ Whole s c ∥₁
   pub apart : distinct (pairs_of s c) ≡ true

@@ -128,7 +128,7 @@ pub record Told : Type 0 where
 abbrev pub told : List Contract → Reported → Told
 told cs r = record { says = r; under = listed cs r.contract }
 
--- a trade or order made outside a market place
+-- the venue is `XBIL`: a trade or order made outside a market place
 abbrev pub bilateral : Reported → Bool
 bilateral r = bytes_eq r.venue (codes "XBIL")
 

@@ -34,7 +34,7 @@ has_id id c = bytes_eq (text_of c.id) id
 abbrev pub contracts_of : Inside → List Contract
 contracts_of list = map contract_of (vec_items list.contracts)
 
--- the places that are reserved, and how many of them are taken
+-- a place is reserved for each contract that may be listed, and no more are listed
 pub record HasRoom (list : Inside) : Type 0 where
   pub fits : contract_limit ≤ vec_capacity list.contracts
   pub few : vec_len list.contracts ≤ contract_limit

@@ -14,12 +14,13 @@ use Rattle.filing.specs.Files.{File}
 
 -- ---- In naming
 
--- there was memory for one more file
+-- naming did not fail for want of memory
 abbrev pub had_memory : {V : Type 0} → Result V NamingError → Bool
 had_memory (Ok v) = true
 had_memory (Err (Fault e)) = true
 had_memory (Err NoMemory) = false
 
+-- want of memory is no refusal
 abbrev pub name_refusal : {V : Type 0} → Result V NamingError → Option (ℕ × ℕ)
 name_refusal (Ok v) = None
 name_refusal (Err (Fault e)) = Some (name_number e, 0)

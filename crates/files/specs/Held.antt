@@ -13,7 +13,7 @@ stage_of held.Named = filing.Named
 stage_of held.Identified = filing.Identified
 stage_of held.Ended = filing.Ended
 
--- each line judged is accepted or refused
+-- a held file as plain data: its lines judged are those accepted and those refused
 abbrev pub as_file : HeldFile → File
 as_file f = record {
   stage = stage_of f.stage;

@@ -26,7 +26,7 @@ at_stage s f = record { stage = s; entity = f.entity; judged = f.judged; accepte
 abbrev pub no_file : File
 no_file = at_stage Ended (named_file [])
 
--- the file of a number, in the order of naming from 0
+-- the file of a number, in the order of naming from 0; `no_file` if there are not so many
 abbrev pub file_of : List File → ℕ → File
 file_of fs n = slice_index_or fs n no_file
 

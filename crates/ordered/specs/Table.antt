@@ -26,7 +26,7 @@ abbrev pub pairs_of : List Entry → ℕ → List (Key × Life)
 pairs_of s zero = []
 pairs_of s (suc c) = ((at s c).key, (at s c).life) ∷ pairs_of s c
 
--- the first c entries rise by their keys
+-- the first c entries, no more than there is room for, rise strictly by their keys
 pub record Sound (s : List Entry) (c : ℕ) : Type 0 where
   pub fits : c ≤ room_of s
   pub rising : (i j : ℕ) → i < j → j < c → Before (at s i).key (at s j).key
@@ -36,7 +36,8 @@ abbrev pub Sought : List Entry → ℕ → Key → Result ℕ ℕ → Type 0
 Sought s c k (Ok i) = (i < c) × ((at s i).key ≡ k)
 Sought s c k (Err i) = (i ≤ c) × ((m : ℕ) → m < i → Before (at s m).key k) × ((m : ℕ) → i ≤ m → m < c → Before k (at s m).key)
 
--- what holds of a store's table: it is sound, no key stands twice, and no more are held than can be
+-- what holds of a store's table: it is sound, no key stands twice, and no more are held than can be; what stands between the bars holds, and nothing
+-- more is kept of it
 pub record Held (s : List Entry) (c : ℕ) : Type 0 where
   pub in_order : ∥ Sound s c ∥₁
   pub apart : distinct (pairs_of s c) ≡ true

@@ -6,7 +6,7 @@ use Rattle.output.specs.declared.faults.OutputFault.TheVariants.{TooShort}
 abbrev pub fits : List ℕ → List ℕ → Bool
 fits buffer text = nat_le (length text) (length buffer)
 
--- what is answered: the number of bytes written
+-- what is answered: the number of bytes written, or that the buffer is too short
 abbrev pub answered : List ℕ → List ℕ → Result ℕ OutputFault
 answered buffer text = cond (fits buffer text) (Ok (length text)) (Err TooShort)
 

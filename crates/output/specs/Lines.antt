@@ -11,6 +11,7 @@ unfoldable pub hexadecimal : ℕ → ℕ → List ℕ
 hexadecimal zero n = []
 hexadecimal (suc k) n = hexadecimal k (n / 16) ++ (digit_glyph false (n % 16) ∷ [])
 
+-- a hyphen where there is no code
 abbrev pub code_text : Option (Bor (List ℕ)) → List ℕ
 code_text None = codes "-"
 code_text (Some code) = code.now

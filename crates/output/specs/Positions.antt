@@ -3,6 +3,7 @@ use Rattle.std.specs.Prelude.{ℕ, ◌+◌, cond, List, [], ◌∷◌, ◌++◌,
 use Rattle.output.specs.declared.lines.AnswerLine.TheVariants.{Position}
 use Rattle.output.specs.Lines.{line_text}
 
+-- the line of a contract, or nothing where its sum is zero
 unfoldable pub position_text : ℕ → ℤ → List ℕ
 position_text contract sum = cond (unsigned_abs sum == 0) [] (line_text (Position contract sum))
 

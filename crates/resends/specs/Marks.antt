@@ -26,6 +26,7 @@ mark_parts (Accepted key action) = LineOf (key_parts key) (is_error action)
 abbrev pub marks_in : List Mark → List MarkParts
 marks_in = map mark_parts
 
+-- the mark of a judged line by the row that refused it, if one did
 abbrev pub marked : Subject → Option (ℕ × ℕ) → MarkParts
 marked no_line v = NoReportLine
 marked (a_line k r) (Some n) = RefusedLine
