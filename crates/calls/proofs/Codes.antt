@@ -111,7 +111,7 @@ fitted P (r ∷ rs) x n f h e = by (r.fits x) (fitted P rs x n f h.1) e
         subst (λ m. P m f) (ap (λ y. y.0) s) (subst (P r.number) (ap (λ y. y.1) s) h.0)
     by false later e = later e
 
--- 10 and its field is the number of none but the rows of form, and of fields there are eleven
+-- a number that is 10 and the row's field is that of a row of form, and there are eleven of them
 abbrev Formed : ℕ → ℕ → Type 0
 Formed n f = n ≡ 10 + f → f ≤ 11
 

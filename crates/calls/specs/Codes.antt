@@ -42,7 +42,7 @@ code_in code (Err e) = code e
 
 -- ---- Any call
 
--- what the line of a call tells of; one without a line has no code that asks
+-- what the line of a call tells of; the codes of calls without a line are the same for both kinds
 abbrev pub kind_in : book.Call → Kind
 kind_in (book.AddEntity bs) = Order
 kind_in (book.AddContract bs) = Order
