@@ -1,5 +1,5 @@
 -- Each row of the tables, and each limit on both sides.
-use Rattle.std.specs.Prelude.{◌≡◌, ℕ, List, [], ◌∷◌, ◌++◌, replicate, ℤ, pos, negsuc, Some, None, codes, Option}
+use Rattle.std.specs.Prelude.{◌≡◌, ℕ, ◌+◌, List, [], ◌∷◌, ◌++◌, replicate, ℤ, pos, negsuc, Some, None, codes, Option}
 use Prim.Native.String.{String}
 use Rattle.std.specs.List.{AllByRecursion}
 use Rattle.text.specs.declared.words.Kind.TheVariants.{Trade}
@@ -13,6 +13,7 @@ use Rattle.life.specs.Parts.{KeyParts, LifeParts}
 use Rattle.life.specs.Lives.{Lives}
 use Rattle.book.specs.Book.{Book, Call, AddEntity, AddContract, NameFile, Identify, Withdraw, Close, Judge, LookUp, Total, Answer, Accepted, Refused, Receipt, Found, end}
 use Rattle.book.specs.Laws.{log, survivors}
+use Rattle.book.specs.Totals.{totals}
 use Rattle.book.specs.Cases.{Case, judged_lines, Stands}
 
 -- an identified file with n lines, all refused
@@ -614,5 +615,14 @@ SurvivorsExample =
     ≡ line "TRD;U;;XBIL;C0643778W.EU;S;N;9;1;1;" ∷ line "TRD;T;;XBIL;C0643778W.EU;S;N;8;1;1;" ∷ line "TRD;U;;XBIL;C0643778W.EU;S;C;9;1;1;"
     ∷ LookUp [] ∷ Close 1 ∷ Total ∷ Close 0 ∷ []
 
+-- the quantities of the open lives together, at each call for the total and at no other
+abbrev pub TotalsExample : Type 0
+TotalsExample =
+    totals 0 (λ m n. m + n) (λ k l. l.with_quantity) (near (codes "A0000116N.DE" ∷ []) []) (
+    Total ∷ line "TRD;T;;XBIL;C0643778W.EU;S;N;9;1;1;" ∷ Total ∷ line "TRD;U;;XBIL;C0643778W.EU;B;N;9;2;1;" ∷ LookUp (codes "TRD;U;;XBIL;C0643778W.EU;B;N;9;2;1;")
+    ∷ Total ∷ line "TRD;T;;XBIL;C0643778W.EU;S;C;9;1;1;" ∷ line "x" ∷ Total
+    ∷ AddEntity (codes "C0643778W.EU") ∷ AddContract (codes "Y;FW;;") ∷ NameFile [] ∷ Identify 0 [] ∷ Withdraw 0 ∷ Close 0 ∷ Total ∷ [])
+    ≡ 0 ∷ 100_000 ∷ 300_000 ∷ 200_000 ∷ 200_000 ∷ []
+
 abbrev pub EndingsStand : Type 0
-EndingsStand = AllByRecursion Ends endings × SurvivorsExample
+EndingsStand = AllByRecursion Ends endings × SurvivorsExample × TotalsExample

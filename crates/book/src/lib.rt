@@ -55,7 +55,7 @@ pub fn worked_cases() -> u8
     15
 }
 
-// How many examples there are at the rows and limits of the tables. The rules give each of them, and what is held afterwards.
+// How many examples there are at the rows and limits of the tables. The rules give each of them, and what is held and told afterwards.
 pub fn worked_edges() -> u8
     ensures all { result ≡ length edges }
     ensures stand { EdgesStand }

@@ -1,4 +1,5 @@
 pub mod Checkers
+pub mod Codes
 pub mod Histories
 pub mod Judging
 pub mod Moves

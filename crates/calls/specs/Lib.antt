@@ -1,3 +1,4 @@
+pub mod Codes
 pub mod Faults
 pub mod Follows
 pub mod Held

@@ -1,6 +1,8 @@
 // Judging lines.
 ghost use Rattle.std.specs.Prelude.{◌≡◌};
 ghost use Rattle.book.specs.Book.{Judge as JudgeCall};
+ghost use Rattle.calls.specs.Codes.{code_in, code_due, kind_of};
+ghost use Rattle.calls.specs.Faults.{judge_code};
 ghost use Rattle.calls.specs.Held.{book_in, Continues};
 ghost use Rattle.calls.specs.Said.{judge_answer};
 ghost use Rattle.calls.specs.Steps.{Step, Tried};
@@ -16,14 +18,16 @@ use measure::Measure;
 impl<'s, S: Store, M: Measure> Checker<'s, S, M> {
     // Judges a line in an identified file, where it counts.
     pub fn judge(&mut self, file: &IdentifiedFile, line: &[u8]) -> Result<(), JudgeFault>
-        ensures { Continues M.Measure self.old (JudgeCall file.now.number line.now) (judge_answer result) self.new }
+        ensures follows { Continues M.Measure self.old (JudgeCall file.now.number line.now) (judge_answer result) self.new }
+        ensures code { code_in judge_code result ≡ code_due (kind_of line.now) (judge_answer result) }
     {
         self.judge_at(file.number(), line)
     }
 
     // Judges a line in the file of a number.
     pub(crate) fn judge_at(&mut self, number: usize, line: &[u8]) -> Result<(), JudgeFault>
-        ensures { Step M.Measure (book_in self.old) self.old.register.total (JudgeCall number line.now) (judge_answer result) (book_in self.new) self.new.register.total }
+        ensures step { Step M.Measure (book_in self.old) self.old.register.total (JudgeCall number line.now) (judge_answer result) (book_in self.new) self.new.register.total }
+        ensures code { code_in judge_code result ≡ code_due (kind_of line.now) (judge_answer result) }
     {
         let answer = self.try_line(number, line);
         self.files.count_line(number, answer.is_ok());
@@ -32,7 +36,8 @@ impl<'s, S: Store, M: Measure> Checker<'s, S, M> {
 
     // What becomes of the lives, before the line is counted.
     fn try_line(&mut self, number: usize, line: &[u8]) -> Result<(), JudgeFault>
-        ensures { Tried M.Measure (book_in self.old) self.old.register.total number line.now (judge_answer result) (book_in self.new) self.new.register.total }
+        ensures tried { Tried M.Measure (book_in self.old) self.old.register.total number line.now (judge_answer result) (book_in self.new) self.new.register.total }
+        ensures code { code_in judge_code result ≡ code_due (kind_of line.now) (judge_answer result) }
     {
         self.files.takes(number)?;
         let claim = claim(&self.contracts, line)?;

@@ -1,6 +1,8 @@
 // Making a checker; adding entities and contracts; looking up; and the total.
 ghost use Rattle.std.specs.Prelude.{◌≡◌, ℕ, ◌+◌, List, [], length, IfOk};
 ghost use Rattle.book.specs.Book.{Call, AddEntity, AddContract, LookUp, Total as TotalCall, Accepted as AcceptedAnswer};
+ghost use Rattle.claims.specs.Faults.{line_fault_code};
+ghost use Rattle.calls.specs.Codes.{code_in, code_due, kind_of};
 ghost use Rattle.calls.specs.Follows.{book_after, book_total};
 ghost use Rattle.calls.specs.Held.{Led, Continues};
 ghost use Rattle.calls.specs.Said.{entity_answer, contract_answer, finding_answer};
@@ -49,7 +51,8 @@ impl<'s, S: Store, M: Measure> Checker<'s, S, M> {
 
     // The standing life of a line's key, or none; or the first rule of form or contract that the line breaks.
     pub fn look_up(&self, line: &[u8]) -> Result<Option<Life>, LineFault>
-        ensures { Continues M.Measure self.now (LookUp line.now) (finding_answer result) self.now }
+        ensures follows { Continues M.Measure self.now (LookUp line.now) (finding_answer result) self.now }
+        ensures code { code_in line_fault_code result ≡ code_due (kind_of line.now) (finding_answer result) }
     {
         let claim = claim(&self.contracts, line)?;
         Ok(self.register.find(&claim.key))

@@ -1,6 +1,12 @@
 // The answers of the calls, in one type.
-ghost use Rattle.std.specs.Prelude.{◌≡◌, true, false, MatchResult};
+ghost use Rattle.std.specs.Prelude.{◌≡◌, true, false, None, IfOk, MatchResult};
+ghost use Rattle.text.specs.declared.words.Kind.{Kind};
+ghost use Rattle.contract.specs.Faults.{contract_fault_code};
 ghost use Rattle.files.specs.Answers.{had_memory};
+ghost use Rattle.files.specs.Faults.{identify_code};
+ghost use Rattle.claims.specs.Faults.{line_fault_code};
+ghost use Rattle.calls.specs.Codes.{code_in, code_due};
+ghost use Rattle.calls.specs.Faults.{fault_code, judge_code};
 ghost use Rattle.calls.specs.Said.{answer_said, entity_answer, contract_answer, naming_answer, identify_answer, ending_answer, judge_answer, finding_answer};
 
 use crate::answer::{Answer, Given};
@@ -18,7 +24,8 @@ use std::alloc::AllocError;
 // than what it would save.
 
 pub fn of_entity(res: Result<(), EntityFault>) -> Answer
-    ensures { answer_said result ≡ entity_answer res }
+    ensures answer { answer_said result ≡ entity_answer res }
+    ensures code { code_in fault_code result ≡ None }
 {
     match res {
         Ok(()) => Ok(Given::Accepted),
@@ -27,7 +34,8 @@ pub fn of_entity(res: Result<(), EntityFault>) -> Answer
 }
 
 pub fn of_contract(res: Result<u8, ContractFault>) -> Answer
-    ensures { answer_said result ≡ contract_answer res }
+    ensures answer { answer_said result ≡ contract_answer res }
+    ensures code { code_in fault_code result ≡ code_in contract_fault_code res }
 {
     match res {
         Ok(_) => Ok(Given::Accepted),
@@ -37,7 +45,8 @@ pub fn of_contract(res: Result<u8, ContractFault>) -> Answer
 
 // Want of memory is no answer.
 pub(crate) fn of_naming(res: Result<usize, NamingError>) -> Result<Answer, AllocError>
-    ensures { MatchResult result (λ answer. (had_memory res ≡ true) × (answer_said answer ≡ naming_answer res)) (λ _. had_memory res ≡ false) }
+    ensures answer { MatchResult result (λ answer. (had_memory res ≡ true) × (answer_said answer ≡ naming_answer res)) (λ _. had_memory res ≡ false) }
+    ensures code { IfOk result (λ answer. (kind : Kind) → code_in fault_code answer ≡ code_due kind (answer_said answer)) }
 {
     match res {
         Ok(_) => Ok(Ok(Given::Accepted)),
@@ -47,7 +56,8 @@ pub(crate) fn of_naming(res: Result<usize, NamingError>) -> Result<Answer, Alloc
 }
 
 pub(crate) fn of_identifying(res: Result<(), IdentifyFault>) -> Answer
-    ensures { answer_said result ≡ identify_answer res }
+    ensures answer { answer_said result ≡ identify_answer res }
+    ensures code { code_in fault_code result ≡ code_in identify_code res }
 {
     match res {
         Ok(()) => Ok(Given::Accepted),
@@ -56,7 +66,8 @@ pub(crate) fn of_identifying(res: Result<(), IdentifyFault>) -> Answer
 }
 
 pub fn of_ending(res: Result<Receipt, PlaceFault>) -> Answer
-    ensures { answer_said result ≡ ending_answer res }
+    ensures answer { answer_said result ≡ ending_answer res }
+    ensures code { code_in fault_code result ≡ None }
 {
     match res {
         Ok(receipt) => Ok(Given::Receipt(receipt)),
@@ -65,7 +76,8 @@ pub fn of_ending(res: Result<Receipt, PlaceFault>) -> Answer
 }
 
 pub fn of_judging(res: Result<(), JudgeFault>) -> Answer
-    ensures { answer_said result ≡ judge_answer res }
+    ensures answer { answer_said result ≡ judge_answer res }
+    ensures code { code_in fault_code result ≡ code_in judge_code res }
 {
     match res {
         Ok(()) => Ok(Given::Accepted),
@@ -74,7 +86,8 @@ pub fn of_judging(res: Result<(), JudgeFault>) -> Answer
 }
 
 pub(crate) fn of_finding(res: Result<Option<Life>, LineFault>) -> Answer
-    ensures { answer_said result ≡ finding_answer res }
+    ensures answer { answer_said result ≡ finding_answer res }
+    ensures code { code_in fault_code result ≡ code_in line_fault_code res }
 {
     match res {
         Ok(life) => Ok(Given::Found(life)),

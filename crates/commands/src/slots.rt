@@ -1,6 +1,6 @@
 // The slots of a program's store.
-ghost use Rattle.std.specs.Prelude.{◌≡◌, length, IfOk};
-ghost use Rattle.commands.specs.Slots.{slots_form};
+ghost use Rattle.std.specs.Prelude.{◌≡◌, replicate, IfOk};
+ghost use Rattle.commands.specs.Slots.{slots_form, free_slot};
 
 use chained::{Chained, Slot};
 use life::{Key, Life};
@@ -44,14 +44,12 @@ pub fn slots_of(word: &str) -> Result<usize, SlotsFault>
     Ok(n)
 }
 
-// So many slots, with nothing in their chains.
+// So many free slots: each has a blank pair, and nothing in its chain.
 pub fn free_slots(heap: Global, n: usize) -> Result<Vec<Slot>, AllocError>
-    ensures { IfOk result (λ slots. length slots.items ≡ n) }
+    ensures { IfOk result (λ slots. slots.items ≡ replicate n free_slot) }
 {
-    let key = Key::new(Kind::Order, b"-", 0, b"XBIL", b"A0000000A.EU", Side::Buy);
-    let (Some(key), Some(life)) = (key, Life::new(0, 0, None)) else {
-        return Err(AllocError);
-    };
+    let key = Key::new(Kind::Order, b"", 0, &[0; 4], &[0; 12], Side::Buy).unwrap();
+    let life = Life::new(0, 0, None).unwrap();
     vec![in heap; Slot {
         head: 0,
         next: 0,

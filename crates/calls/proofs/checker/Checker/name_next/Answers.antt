@@ -17,9 +17,9 @@ returns g c =
     let named = c.name_next in
     let files = was.files.files in
     let is : Checker g.row.S.Denot g.row.M.Denot = record { register = was.register; entities = was.entities; contracts = was.contracts; files = named.new.self } in
-    let so = named_so m was is (NameFile c.args.name.now) (had_memory named.result) (naming_answer named.result) c.of_naming.result c.of_naming.ensures
+    let so = named_so m was is (NameFile c.args.name.now) (had_memory named.result) (naming_answer named.result) c.of_naming.result c.of_naming.ensures.answer
     (λ had. continues m was is (NameFile c.args.name.now) (naming_answer named.result)
     (naming_step m (book_in was) was.register.total c.args.name.now named.result (named.new.self.files) had named.ensures.told named.ensures.list))
     (λ none capacity past f. subst (λ fs. Follows m capacity past (with_files (book_in was) fs) was.register.total)
     (sym (named.ensures.list ∙ ap (λ b. cond b (named_in files c.args.name.now) files) none)) f) in
-    record { follows = so.0; memory = so.1 }
+    record { follows = so.0; memory = so.1; code = c.of_naming.ensures.code }
