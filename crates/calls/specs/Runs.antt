@@ -14,15 +14,7 @@ use Rattle.calls.specs.Said.{Spoken, answer_said, answers_said}
 abbrev pub HaveCodes : List Call → List Spoken → Type 0
 HaveCodes = AllZip (λ c a. code_in fault_code a ≡ code_due (kind_in c) (answer_said a))
 
-<<<<<<< HEAD
--- the law of runs holds of this run of a new checker with room for so many lives
-abbrev pub HasRun : {S M : Type 0} → Ghosts M → ℕ → List Call → CompletedRun S M → Type 0
-HasRun weighing capacity calls run =
-    Ran weighing capacity calls (answers_said (vec_items run.answers)) (vec_items run.totals) (book_in run.checker) run.checker.register.total
-=======
--- a new checker with room for so many lives was given these calls: its answers and the totals told are the book's, the lives of its register are
--- the book's keys and lives, and its total is the joined weights of the book's open lives; and its refusals have the Agency's codes
+-- the law of runs holds of this run of a new checker with room for so many lives; and its refusals have the Agency's codes
 pub record HasRun {S M : Type 0} (weighing : Ghosts M) (capacity : ℕ) (calls : List Call) (run : CompletedRun S M) : Type 0 where
   pub ran : Ran weighing capacity calls (answers_said (vec_items run.answers)) (vec_items run.totals) (book_in run.checker) run.checker.register.total
   pub codes : HaveCodes calls (vec_items run.answers)
->>>>>>> 86a63e2e603c9194bac74b057b24f537db9d7c93
