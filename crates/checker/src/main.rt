@@ -25,10 +25,11 @@ fn check(rt: HostRuntime, options: Options) -> io::Result<()> {
 fn main(rt: HostRuntime) -> io::Result<ExitCode> {
     let mut options = Options::usual();
     for word in env::args(&rt)?.skip(1) {
-        match options.with(word.as_str()) {
+        let word = word.as_str();
+        match options.with(word) {
             Ok(more) => options = more,
             Err(fault) => {
-                eprintln!(rt; "{fault}\nusage: checker [--slots=N] [--explain] < INPUT")?;
+                eprintln!(rt; "{word}: {fault}\nusage: checker [--slots=N] [--explain] < INPUT")?;
                 return Ok(ExitCode::from(2));
             }
         }

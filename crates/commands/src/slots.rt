@@ -23,7 +23,7 @@ pub enum SlotsFault {
 impl fmt::Display for SlotsFault {
     fn fmt<W: fmt::Write>(&self, f: &mut fmt::Formatter<W>) -> fmt::Result {
         match *self {
-            SlotsFault::Form => write!(f, "the word is no option"),
+            SlotsFault::Form => write!(f, "no option, or not a number of 1 to 10 digits"),
             SlotsFault::Length => write!(f, "72: a store has 1 to 65536 slots"),
         }
     }

@@ -16,13 +16,26 @@ abbrev pub code_text : Option (Bor (List ℕ)) → List ℕ
 code_text None = codes "-"
 code_text (Some code) = code.now
 
+-- the words of each line; a refusal's code is a word
+abbrev pub accepted_words : List (List ℕ)
+accepted_words = codes "A" ∷ []
+
+abbrev pub refused_words : ℕ → ℕ → List ℕ → List (List ℕ)
+refused_words number field code = codes "R" ∷ decimal number ∷ decimal field ∷ code ∷ []
+
+abbrev pub receipt_words : ℕ → ℕ → ℕ → List (List ℕ)
+receipt_words judged accepted refused = codes "Z" ∷ decimal judged ∷ decimal accepted ∷ decimal refused ∷ []
+
 abbrev pub words : AnswerLine → List (List ℕ)
-words Accepted = codes "A" ∷ []
-words (Refused number field code) = codes "R" ∷ decimal number ∷ decimal field ∷ code_text code ∷ []
+words Accepted = accepted_words
+words (Refused number field code) = refused_words number field (code_text code)
 words (Position contract sum) = codes "T" ∷ decimal contract ∷ signed_decimal sum ∷ []
 words (CheckWord word) = codes "W" ∷ hexadecimal 16 word ∷ []
-words (Receipt judged accepted refused) = codes "Z" ∷ decimal judged ∷ decimal accepted ∷ decimal refused ∷ []
+words (Receipt judged accepted refused) = receipt_words judged accepted refused
 
--- the words, one blank between two, and a line feed
+-- words, one blank between two, and a line feed
+abbrev pub text_of_words : List (List ℕ) → List ℕ
+text_of_words ws = join_with_byte 32 ws ++ (10 ∷ [])
+
 abbrev pub line_text : AnswerLine → List ℕ
-line_text line = join_with_byte 32 (words line) ++ (10 ∷ [])
+line_text line = text_of_words (words line)

@@ -61,10 +61,11 @@ fn main(rt: HostRuntime) -> io::Result<ExitCode> {
     let heap = rt.alloc();
     let mut slots = SLOTS;
     for word in env::args(&rt)?.skip(1) {
-        match slots_of(word.as_str()) {
+        let word = word.as_str();
+        match slots_of(word) {
             Ok(n) => slots = n,
             Err(fault) => {
-                eprintln!(rt; "{fault}\nusage: resend [--slots=N] < INPUT")?;
+                eprintln!(rt; "{word}: {fault}\nusage: resend [--slots=N] < INPUT")?;
                 return Ok(ExitCode::from(2));
             }
         }

@@ -8,6 +8,7 @@ use Rattle.life.specs.Lives.{Lives}
 use Rattle.calls.specs.Positions.{TellsPosition}
 use Rattle.std.specs.Prelude.{◌≡◌, ⊤, ℕ, ◌<◌, List, ◌++◌, pos, slice_index_or, Some, None, Ok, Err, Option, Result}
 use Rattle.text.specs.Bytes.{Bytes}
+use Rattle.text.specs.declared.words.Kind.{Kind}
 use Rattle.book.specs.Book.{Call, Answer, Refused as RefusedAnswer}
 use Rattle.calls.specs.declared.answer.Given.{Given}
 use Rattle.calls.specs.declared.checker.Checker.{Checker}
@@ -19,7 +20,7 @@ use Rattle.session.specs.declared.file_in_hand.FileInHand.TheVariants as file
 use Rattle.session.specs.declared.reply.Reply.{Reply}
 use Rattle.session.specs.declared.reply.Reply.TheVariants as reply
 use Rattle.session.specs.declared.refusals.Refusal.{Refusal}
-use Rattle.session.specs.Refusals.{refusal_number, refusal_field, refusal_offset}
+use Rattle.session.specs.Refusals.{refusal_number, refusal_field, refusal_offset, told_text, answer_text}
 use Rattle.session.specs.Session.{InHand, NoFile, OnlyNamed, Identified, call_of_line, in_hand_after, answer_to, Said, Answered, AskedPositions, AskedCheckWord, said_of_line, listed, calls_of_input}
 
 abbrev pub in_hand : FileInHand → InHand
@@ -56,6 +57,12 @@ module _ {S M : Type 0} (weighing : Ghosts M) where
   abbrev pub GivenInput : Checker S M → Bytes → Checker S M → Type 0
   GivenInput was input is =
       (capacity : ℕ) (past : List Call) → Led weighing capacity past was → Led weighing capacity (past ++ calls_of_input (book_after capacity past) input) is
+
+-- the line that tells a reply is the one that the answer should have, of an order or of a trade
+abbrev pub HasText : Kind → Reply → Type 0
+HasText kind (reply.Told t) = told_text t ≡ answer_text kind (told t)
+HasText kind (reply.Positions sums) = ⊤
+HasText kind (reply.CheckWord word) = ⊤
 
 -- the check word of lives
 abbrev pub check_word_of : Lives → ℕ

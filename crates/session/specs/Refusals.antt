@@ -1,10 +1,14 @@
 -- The published number, field, offset and code of a refused line of input; and the lines that answer calls.
-use Rattle.std.specs.Prelude.{ℕ, List, [], ◌∷◌, ◌++◌, Some, None, codes, decimal, Option}
-use Rattle.std.specs.List.{join_with_byte}
+use Rattle.std.specs.Prelude.{ℕ, Some, None, Ok, Err, codes, Option, Result}
 use Rattle.text.specs.Bytes.{Bytes}
+use Rattle.text.specs.declared.words.Kind.{Kind}
 use Rattle.commands.specs.Commands.{command_number}
+use Rattle.book.specs.Book as book
+use Rattle.book.specs.Book.{Answer}
+use Rattle.calls.specs.Codes.{agency_code}
 use Rattle.calls.specs.declared.answer.Given.{Given}
 use Rattle.calls.specs.declared.answer.Given.TheVariants.{Accepted, Found, Receipt}
+use Rattle.output.specs.Lines.{text_of_words, accepted_words, refused_words, receipt_words}
 use Rattle.calls.specs.Faults.{fault_number, fault_field, fault_offset, fault_code}
 use Rattle.session.specs.declared.refusals.Refusal.{Refusal}
 use Rattle.session.specs.declared.refusals.Refusal.TheVariants.{Unread, OutOfPlace, Refused}
@@ -30,17 +34,32 @@ refusal_code (Unread e) = None
 refusal_code OutOfPlace = None
 refusal_code (Refused e) = fault_code e
 
+-- ---- Texts
+
 -- a hyphen where there is no code
 abbrev pub code_shown : Option Bytes → Bytes
 code_shown None = codes "-"
 code_shown (Some code) = code
 
--- R, number, field and code, one blank between two, and a line feed
-abbrev pub refusal_text : Refusal → Bytes
-refusal_text r = join_with_byte 32 (codes "R" ∷ decimal (refusal_number r) ∷ decimal (refusal_field r) ∷ code_shown (refusal_code r) ∷ []) ++ (10 ∷ [])
+abbrev pub refused_text : ℕ → ℕ → Option Bytes → Bytes
+refused_text number field code = text_of_words (refused_words number field (code_shown code))
 
--- Z and the counts of a file for its receipt, and else A
+abbrev pub refusal_text : Refusal → Bytes
+refusal_text r = refused_text (refusal_number r) (refusal_field r) (refusal_code r)
+
 abbrev pub given_text : Given → Bytes
-given_text Accepted = codes "A" ++ (10 ∷ [])
-given_text (Found life) = codes "A" ++ (10 ∷ [])
-given_text (Receipt r) = join_with_byte 32 (codes "Z" ∷ decimal r.judged ∷ decimal r.accepted ∷ decimal r.refused ∷ []) ++ (10 ∷ [])
+given_text Accepted = text_of_words accepted_words
+given_text (Found life) = text_of_words accepted_words
+given_text (Receipt r) = text_of_words (receipt_words r.judged r.accepted r.refused)
+
+-- the line that answers what the code tells
+abbrev pub told_text : Result Given Refusal → Bytes
+told_text (Ok given) = given_text given
+told_text (Err r) = refusal_text r
+
+-- the line that an answer of the book should have, of an order or of a trade
+abbrev pub answer_text : Kind → Answer → Bytes
+answer_text kind book.Accepted = text_of_words accepted_words
+answer_text kind (book.Refused number field at) = refused_text number field (agency_code kind number)
+answer_text kind (book.Receipt judged accepted refused) = text_of_words (receipt_words judged accepted refused)
+answer_text kind (book.Found life) = text_of_words accepted_words

@@ -4,6 +4,9 @@ use Rattle.text.specs.Bytes.{Bytes, then, pieces}
 use Rattle.text.specs.Rows.{first_fit}
 use Rattle.commands.specs.Commands.{Asked, command_rows, asked_by}
 use Rattle.commands.specs.Commands as command
+use Rattle.text.specs.declared.words.Kind.{Kind}
+use Rattle.text.specs.declared.words.Kind.TheVariants.{Order}
+use Rattle.calls.specs.Codes.{kind_of}
 use Rattle.book.specs.Book.{Book, Call, AddEntity, AddContract, NameFile, Identify, Withdraw, Close, Judge, LookUp, Total, Answer, Refused, verdict, after, answer}
 
 -- ---- The file in hand
@@ -56,6 +59,24 @@ command_in line = cond (is_some (first_fit command_rows line)) None (asked_by li
 
 abbrev pub call_of_line : InHand → Bytes → Option Call
 call_of_line h line = then (command_in line) (call_by h)
+
+-- what a command tells of: an order or a trade; commands without a report line have the same codes for both
+abbrev pub kind_asked : Asked → Kind
+kind_asked (command.AddEntity code) = Order
+kind_asked (command.AddContract text) = Order
+kind_asked (command.NameFile name) = Order
+kind_asked (command.Identify code) = Order
+kind_asked (command.Judge line) = kind_of line
+kind_asked command.EndFile = Order
+kind_asked command.Positions = Order
+kind_asked command.CheckWord = Order
+
+abbrev pub kind_of_command : Option Asked → Kind
+kind_of_command None = Order
+kind_of_command (Some command) = kind_asked command
+
+abbrev pub kind_of_line : Bytes → Kind
+kind_of_line line = kind_of_command (asked_by line)
 
 -- ---- What follows a call, or none
 

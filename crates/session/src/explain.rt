@@ -16,8 +16,11 @@ pub(crate) struct Explanation<'a> {
     pub refusal: Refusal,
 }
 
-// The text of a command, which the fields and offsets of its refusal count in, and the names of these fields.
-fn text_and_fields<'a>(line: &'a [u8]) -> (&'a [u8], &'static [&'static str]) {
+// The text of a command, which the fields and offsets of its refusal count in, and the names of these fields. Of a command out of place it is the whole line.
+fn text_and_fields<'a>(line: &'a [u8], refusal: Refusal) -> (&'a [u8], &'static [&'static str]) {
+    if let Refusal::OutOfPlace = refusal {
+        return (line, &[]);
+    }
     match Command::read(line) {
         Ok(Command::Judge(text)) => (text, &LINE_FIELDS),
         Ok(Command::AddContract(text)) => (text, &CONTRACT_FIELDS),
@@ -88,9 +91,18 @@ fn other_rule(number: u16) -> &'static str {
         62 => "an entity is added once",
         63 => "at most 32 entities are known",
         64 =>
-            "a file's name is a date, a schema, a version, an entity's code and a number, joined by _ and followed by .xml",
+            "a file's name is 8 digits, 1 to 32 letters or digits, V and a digit, an entity's code, and 1 to 9 digits with .xml, joined by _",
         65 => "a file is identified by the known entity that its name gives",
-        _ => "a line of input is a known command, and one that goes with the file in hand",
+        _ => "a line of input is R;, K;, F;, I; or P; and a text, or T, W or X alone",
+    }
+}
+
+// What the rule of a refusal asks for.
+fn asked_for(refusal: Refusal) -> &'static str {
+    match refusal {
+        Refusal::OutOfPlace =>
+            "F; goes where no file is in hand, I; where one is only named, P; where one is identified, and X where one is in hand",
+        _ => rule(refusal.number()),
     }
 }
 
@@ -124,7 +136,7 @@ impl<'a> fmt::Display for Explanation<'a> {
     fn fmt<W: fmt::Write>(&self, f: &mut fmt::Formatter<W>) -> fmt::Result {
         let number = self.refusal.number();
         let field = self.refusal.field();
-        let (text, names) = text_and_fields(self.line);
+        let (text, names) = text_and_fields(self.line, self.refusal);
         write!(f, "line {}: \"", self.line_number)?;
         show(f, self.at_fault(text))?;
         f.write_str("\"")?;
@@ -140,6 +152,6 @@ impl<'a> fmt::Display for Explanation<'a> {
             show(f, code)?;
             f.write_str(")")?;
         }
-        write!(f, ": {}", rule(number))
+        write!(f, ": {}", asked_for(self.refusal))
     }
 }

@@ -2,9 +2,13 @@
 ghost use Rattle.std.specs.Prelude.{◌≡◌, Some, IfOk, OnErr, option_map};
 ghost use Rattle.commands.specs.Commands.{asked};
 ghost use Rattle.book.specs.Book.{NameFile as NameCall, Identify as IdentifyCall};
+ghost use Rattle.text.specs.declared.words.Kind.{Kind};
+ghost use Rattle.calls.specs.Codes.{code_in, code_due};
+ghost use Rattle.calls.specs.Faults.{fault_code};
 ghost use Rattle.calls.specs.Held.{Stays};
 ghost use Rattle.calls.specs.Said.{answer_said, call_said};
-ghost use Rattle.session.specs.Session.{call_by, call_of_line, ending, NoFile, OnlyNamed};
+ghost use Rattle.session.specs.Session.{call_by, call_of_line, ending, kind_asked, NoFile, OnlyNamed};
+ghost use Rattle.session.specs.Refusals.{refusal_code};
 ghost use Rattle.session.specs.Held.{in_hand, told, Does};
 
 use crate::refusals::Refusal;
@@ -28,7 +32,8 @@ pub(crate) type Told = Result<Given, Refusal>;
 
 // The answer to a call.
 pub(crate) fn answered(answer: Answer) -> Told
-    ensures { told result ≡ answer_said answer }
+    ensures answer { told result ≡ answer_said answer }
+    ensures code { code_in refusal_code result ≡ code_in fault_code answer }
 {
     Ok(answer?)
 }
@@ -38,6 +43,7 @@ fn name_file<S: Store, M: Measure>(
     name: &[u8],
 ) -> (FileInHand, Result<Told, AllocError>)
     ensures follows { IfOk result.1 (λ res. Does M.Measure checker.old NoFile (Some (NameCall name.now)) (told res) (in_hand result.0) checker.new) }
+    ensures code { IfOk result.1 (λ res. (kind : Kind) → code_in refusal_code res ≡ code_due kind (told res)) }
     ensures memory { OnErr result.1 ((in_hand result.0 ≡ NoFile) × Stays M.Measure checker.old checker.new) }
 {
     match checker.name_file(name) {
@@ -55,7 +61,8 @@ fn identify<S: Store, M: Measure>(
     file: NamedFile,
     code: &[u8],
 ) -> (FileInHand, Told)
-    ensures { Does M.Measure checker.old (OnlyNamed file.number) (Some (IdentifyCall file.number code.now)) (told result.1) (in_hand result.0) checker.new }
+    ensures code { (kind : Kind) → code_in refusal_code result.1 ≡ code_due kind (told result.1) }
+    ensures follows { Does M.Measure checker.old (OnlyNamed file.number) (Some (IdentifyCall file.number code.now)) (told result.1) (in_hand result.0) checker.new }
 {
     match checker.identify(file, code) {
         Ok(file) => (FileInHand::Identified(file), Ok(Given::Accepted)),
@@ -74,6 +81,7 @@ impl FileInHand {
         command: Command,
     ) -> (FileInHand, Result<Told, AllocError>)
         ensures follows { IfOk result.1 (λ res. Does M.Measure checker.old (in_hand self) (call_by (in_hand self) (asked command.entry)) (told res) (in_hand result.0) checker.new) }
+        ensures code { IfOk result.1 (λ res. code_in refusal_code res ≡ code_due (kind_asked (asked command.entry)) (told res)) }
         ensures memory { OnErr result.1 ((in_hand result.0 ≡ in_hand self) × Stays M.Measure checker.old checker.new) }
     {
         let (file, told) = match (command, self) {
@@ -127,7 +135,8 @@ impl FileInHand {
 
     // Ends the file that is in hand, if one is.
     pub(crate) fn end<S: Store, M: Measure>(self, checker: &mut Checker<S, M>) -> Told
-        ensures { Does M.Measure checker.old (in_hand self) (ending (in_hand self)) (told result) NoFile checker.new }
+        ensures follows { Does M.Measure checker.old (in_hand self) (ending (in_hand self)) (told result) NoFile checker.new }
+        ensures code { (kind : Kind) → code_in refusal_code result ≡ code_due kind (told result) }
     {
         match self {
             FileInHand::None => Err(Refusal::OutOfPlace),

@@ -1,7 +1,7 @@
 // Answers, gathered in a buffer and written out when the next does not fit.
 ghost use Rattle.std.specs.Prelude.{◌≡◌, ◌≤◌, length};
 ghost use Rattle.output.specs.Lines.{line_text};
-ghost use Rattle.session.specs.Refusals.{given_text};
+ghost use Rattle.session.specs.Refusals.{told_text};
 
 use crate::explain::Explanation;
 use crate::file_in_hand::Told;
@@ -27,21 +27,22 @@ pub(crate) struct Printer {
     ghost within: { filled ≤ length buffer.items },
 }
 
-// The line that answers a call which is not refused.
-fn given_line(given: Given) -> AnswerLine
-    ensures { line_text result ≡ given_text given }
+// The line that tells the answer to a call, or its refusal.
+fn answer_line(told: Told) -> AnswerLine
+    ensures { line_text result ≡ told_text told }
 {
-    match given {
-        Given::Receipt(Receipt {
+    match told {
+        Ok(Given::Receipt(Receipt {
             judged,
             accepted,
             refused,
-        }) => AnswerLine::Receipt {
+        })) => AnswerLine::Receipt {
             judged,
             accepted,
             refused,
         },
-        _ => AnswerLine::Accepted,
+        Ok(_) => AnswerLine::Accepted,
+        Err(refusal) => refusal.line(),
     }
 }
 
@@ -91,10 +92,7 @@ impl Printer {
 
     // What is told of a call.
     pub(crate) fn told(&mut self, told: Told) -> io::Result<()> {
-        match told {
-            Ok(given) => self.line(&given_line(given)),
-            Err(refusal) => self.line(&refusal.line()),
-        }
+        self.line(&answer_line(told))
     }
 
     // The reply to the next line of input; and on standard error why it is refused, where that is wanted.

@@ -1,7 +1,8 @@
 // What a line of input is answered.
 ghost use Rattle.std.specs.Prelude.{◌≡◌, IfOk, OnErr};
 ghost use Rattle.calls.specs.Held.{Stays};
-ghost use Rattle.session.specs.Held.{in_hand, Answers, TellsHeld};
+ghost use Rattle.session.specs.Held.{in_hand, Answers, TellsHeld, HasText};
+ghost use Rattle.session.specs.Session.{kind_of_line};
 
 use crate::file_in_hand::{FileInHand, Told};
 use crate::refusals::Refusal;
@@ -31,6 +32,7 @@ impl FileInHand {
     ) -> (FileInHand, Result<Reply, AllocError>)
         ensures follows { IfOk result.1 (λ reply. Answers ⟦<Both<Sheet, CheckWord> as Measure>⟧ checker.old (in_hand self) line.now reply (in_hand result.0) checker.new) }
         ensures held { IfOk result.1 (λ reply. TellsHeld ⟦<Both<Sheet, CheckWord> as Measure>⟧ checker.old reply) }
+        ensures text { IfOk result.1 (λ reply. HasText (kind_of_line line.now) reply) }
         ensures memory { OnErr result.1 ((in_hand result.0 ≡ in_hand self) × Stays ⟦<Both<Sheet, CheckWord> as Measure>⟧ checker.old checker.new) }
     {
         match Command::read(line) {

@@ -38,5 +38,5 @@ returns g c =
           subst (λ x. Led both_totals capacity (past ++ listed (ending (in_hand x))) c.match-file.checker) (sym w.in-None-file.is)
           (subst (λ x. Led both_totals capacity (past ++ []) x) (sym w.checker-is) (subst (λ p. Led both_totals capacity p at) (sym (append-nil past)) f))
       | in_default-file+in_ok-told-in_default-file w ↦ λ capacity past f.
-          subst (λ x. Led both_totals capacity (past ++ listed (ending (in_hand file))) x) (sym w.checker-is) (w.end-in_default-file.ensures capacity past f).2
+          subst (λ x. Led both_totals capacity (past ++ listed (ending (in_hand file))) x) (sym w.checker-is) (w.end-in_default-file.ensures.follows capacity past f).2
     ]))
