@@ -1,5 +1,5 @@
 // The list of files, and calls on a file by its number.
-ghost use Rattle.std.specs.Prelude.{◌≡◌, ◌+◌, ◌≤◌, [], length, IfOk, OnOk, option_map, slice_get, slice_set};
+ghost use Rattle.std.specs.Prelude.{◌≡◌, ◌+◌, ◌<◌, ◌≤◌, [], length, IfOk, OnOk, OnErr, option_map, slice_get, slice_set};
 ghost use Rattle.text.specs.Rows.{first_fit};
 ghost use Rattle.files.specs.Answers.{identify_refusal, place_refusal, take_refusal, receipt_of};
 ghost use Rattle.filing.specs.Files.{identifying_rows, withdrawing_rows, closing_rows, taking_rows};
@@ -32,10 +32,13 @@ impl FileList {
         self.files.as_slice().len()
     }
 
-    // Makes places for more files, so that naming them wants no memory. Places are never given back: `kept` says so of each call that may make some.
+    // Makes places for more files, so that naming them wants no memory. It is refused only where there are too few, and changes nothing then.
+    // Places are never given back: `kept` says so of each call that may make some.
     pub fn reserve(&mut self, more: usize) -> Result<(), AllocError>
         ensures list { self.new.files ≡ self.old.files }
         ensures room { OnOk result (length self.old.files + more ≤ self.new.places) }
+        ensures memory { OnErr result (self.old.places < length self.old.files + more) }
+        ensures refused { OnErr result (self.new ≡ self.old) }
         ensures kept { self.old.places ≤ self.new.places }
     {
         self.files.reserve(more)

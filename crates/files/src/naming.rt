@@ -1,5 +1,5 @@
 // Naming files.
-ghost use Rattle.std.specs.Prelude.{◌≡◌, ◌≤◌, false, [], length, IfOk, if◌then◌else◌, Some, None, MatchResult};
+ghost use Rattle.std.specs.Prelude.{◌≡◌, ◌≤◌, false, [], length, IfOk, OnErr, if◌then◌else◌, Some, None, MatchResult};
 ghost use Rattle.text.specs.Bytes.{value};
 ghost use Rattle.text.specs.Rows.{first_fit};
 ghost use Rattle.text.specs.Texts.{text_of};
@@ -24,12 +24,15 @@ fn entity_of(name: &[u8]) -> Result<Text<12>, NameFault>
 }
 
 impl FileList {
-    // Names a file: its number, which is how many files there were before. For want of memory nothing changes, and there is none where a place is reserved.
+    // Names a file: its number, which is how many files there were before. A refusal changes nothing, nor does want of memory. A name that lacks
+    // its form is refused whatever memory there is, and there is no want of it where a place is reserved.
     pub fn name_next(&mut self, name: &[u8]) -> Result<usize, NamingError>
         ensures told { name_refusal result ≡ (if had_memory result then first_fit naming_rows name.now else None) }
         ensures number { IfOk result (λ n. n ≡ length self.old.files) }
         ensures list { self.new.files ≡ (if had_memory result then named_in self.old.files name.now else self.old.files) }
         ensures memory { had_memory result ≡ false → self.old.places ≤ length self.old.files }
+        ensures form_first { had_memory result ≡ false → first_fit naming_rows name.now ≡ None }
+        ensures refused { OnErr result (self.new ≡ self.old) }
         ensures kept { self.old.places ≤ self.new.places }
     {
         let entity = entity_of(name)?;
@@ -45,6 +48,8 @@ impl FileList {
         ensures number { IfOk result (λ file. file.number ≡ length self.old.files) }
         ensures list { self.new.files ≡ (if had_memory result then named_in self.old.files name.now else self.old.files) }
         ensures memory { had_memory result ≡ false → self.old.places ≤ length self.old.files }
+        ensures form_first { had_memory result ≡ false → first_fit naming_rows name.now ≡ None }
+        ensures refused { OnErr result (self.new ≡ self.old) }
         ensures kept { self.old.places ≤ self.new.places }
     {
         let number = self.name_next(name)?;

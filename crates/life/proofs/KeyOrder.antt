@@ -11,6 +11,7 @@ use Rattle.std.proofs.lemmas.Bool.Decides.{nat_tests}
 use Rattle.std.proofs.lemmas.Cmp.{tied_itself}
 use Rattle.text.specs.Texts.{text_of, lexical, number_order, order}
 use Rattle.text.proofs.Compared.{text_same, lex_order}
+use Rattle.text.proofs.WordOrder.{orders_first, buys_first}
 use Rattle.text.specs.declared.words.Kind.{Kind}
 use Rattle.text.specs.declared.words.Kind.TheVariants.{Order, Trade}
 use Rattle.text.specs.declared.words.Side.{Side}
@@ -72,13 +73,13 @@ parts_from_list a b p = λ i. record {
 
 kind_cmp : (k l : Kind) → kind_ord.ghosts.cmp k l ≡ order (kind_place k ∷ []) (kind_place l ∷ [])
 kind_cmp Order Order = refl
-kind_cmp Order Trade = refl
+kind_cmp Order Trade = orders_first
 kind_cmp Trade Order = refl
 kind_cmp Trade Trade = refl
 
 side_cmp : (s t : Side) → side_ord.ghosts.cmp s t ≡ order (side_place s ∷ []) (side_place t ∷ [])
 side_cmp Buy Buy = refl
-side_cmp Buy Sell = refl
+side_cmp Buy Sell = buys_first
 side_cmp Sell Buy = refl
 side_cmp Sell Sell = refl
 
