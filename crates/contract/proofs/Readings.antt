@@ -15,7 +15,7 @@ use Rattle.contract.specs.declared.types.OptionStyle.{OptionStyle}
 use Rattle.contract.specs.ContractList.{Contract, style_form}
 use Rattle.contract.specs.Faults.{contract_refusal}
 use Rattle.contract.specs.Held.{contract_in}
-use Rattle.contract.specs.Styles.{style_of, as_style, style_said}
+use Rattle.contract.specs.Styles.{as_style, style_said}
 
 -- a reading that stopped at a field refuses the text
 pub stops : (k : ℕ) {at : ℕ} {goal : Result Contract Refusal} (r : Result HeldContract ReadFault) (x : ReadFault) → IsErrAnd r (λ y. y ≡ x)
@@ -44,6 +44,9 @@ id_short t y e =
 same_form : (o : Option (Option ℕ)) → has_form o ≡ has_form (then o (λ s. Some (as_style s)))
 same_form None = refl
 same_form (Some s) = refl
+
+abbrev pub style_of : OptionStyle → Option ℕ
+style_of s = s.0
 
 pub style_value : (o : Option (Option ℕ)) (y : OptionStyle) → then o (λ s. Some (as_style s)) ≡ Some y → style_of y ≡ value None o
 style_value None y e = absurd (let z : ◌≡◌ {A = ℕ} 0 1 = cc in omega arith)

@@ -4,9 +4,6 @@ use Rattle.text.specs.Bytes.{Bytes, then}
 use Rattle.contract.specs.declared.types.OptionStyle.{OptionStyle}
 use Rattle.contract.specs.ContractList.{style_form}
 
-abbrev pub style_of : OptionStyle → Option ℕ
-style_of s = s.0
-
 abbrev pub as_style : Option ℕ → OptionStyle
 as_style s = record { 0 = s }
 

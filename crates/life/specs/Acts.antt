@@ -42,6 +42,7 @@ life_after a told None l = by_action l (modified told.time told.quantity told.pr
 
 -- ---- Where none stands
 
+-- the life that a first action begins, with the refusal as it is published
 abbrev pub begun : Result Life LifeFault → Result LifeParts (ℕ × ℕ)
 begun (Ok l) = Ok (life_parts l)
 begun (Err f) = Err (life_number f, life_field f)

@@ -44,21 +44,21 @@ begun bs all v r e l = record { there = ap (λ q. q.at) e ∙ sym (offset_zero b
 
 -- field k of bs has the form, and this is what was handed out of its value
 abbrev pub Says : {A X : Type 0} → (Bytes → ℕ → A → X) → (Bytes → Option A) → ℕ → Bytes → X → Type 0
-Says {A} hand-out form k bs x = (y : A) × (form (piece (suc k) (fields bs)) ≡ Some y) × (x ≡ hand-out (text k bs) (offset k bs) y)
+Says {A} hand_out form k bs x = (y : A) × (form (piece (suc k) (fields bs)) ≡ Some y) × (x ≡ hand_out (text k bs) (offset k bs) y)
 
 next_is : (f k : ℕ) → f ≡ k → k < 255 → next_field f ≡ suc k
 next_is f k e l = omega arith
 
-module _ {A X V : Type 0} (hand-out : Bytes → ℕ → A → X) (form : Bytes → Option A) (k : ℕ) {bs : Bytes} {all : List (Row Bytes)} {v : V} {n : ℕ} {rows : List (Row Bytes)} {was : Reader}
+module _ {A X V : Type 0} (hand_out : Bytes → ℕ → A → X) (form : Bytes → Option A) (k : ℕ) {bs : Bytes} {all : List (Row Bytes)} {v : V} {n : ℕ} {rows : List (Row Bytes)} {was : Reader}
     (few : k < 255) (short : k < length (fields bs)) (h : Reached bs all v was k (form_row n (suc k) form ∷ rows)) where
-  here : {r : Result X ReadFault} → r ≡ read hand-out form was.place was.line.now → r ≡ formed (hand-out (text k bs) (offset k bs)) (form (text k bs)) (suc k) (offset k bs)
+  here : {r : Result X ReadFault} → r ≡ read hand_out form was.place was.line.now → r ≡ formed (hand_out (text k bs) (offset k bs)) (form (text k bs)) (suc k) (offset k bs)
   here e =
-      e ∙ (λ i. formed (hand-out (front (drop (h.there i) (h.whole i))) (h.there i)) (form (front (drop (h.there i) (h.whole i)))) (next_is was.place.field k h.count few i) (h.there i))
+      e ∙ (λ i. formed (hand_out (front (drop (h.there i) (h.whole i))) (h.there i)) (form (front (drop (h.there i) (h.whole i)))) (next_is was.place.field k h.count few i) (h.there i))
 
   -- the reader goes on with the next row, and has the value that the form gives
-  pub onward : {Y : Type 0} {x : X} {is : Reader} {y : Y} → Ok x ≡ read hand-out form was.place was.line.now → Moved was is (Ok y) → Reached bs all v is (suc k) rows × Says hand-out form k bs x
+  pub onward : {Y : Type 0} {x : X} {is : Reader} {y : Y} → Ok x ≡ read hand_out form was.place was.line.now → Moved was is (Ok y) → Reached bs all v is (suc k) rows × Says hand_out form k bs x
   onward {x = x} e m =
-      let s = said_some (hand-out (text k bs) (offset k bs)) (form (text k bs)) (suc k) (offset k bs) x (here e) in
+      let s = said_some (hand_out (text k bs) (offset k bs)) (form (text k bs)) (suc k) (offset k bs) x (here e) in
       let t = ap form (sym (texts k bs short)) ∙ s.1 in (
         record {
           there = ap (λ t. t.at) m.place ∙ (λ i. h.there i + pace (drop (h.there i) (h.whole i))) ∙ sym (offset_next k bs);
@@ -70,8 +70,8 @@ module _ {A X V : Type 0} (hand-out : Bytes → ℕ → A → X) (form : Bytes �
       )
 
   -- the first row that fits is this one
-  pub stopped : {x : ReadFault} → Err x ≡ read hand-out form was.place was.line.now → (x ≡ Form (suc k) (offset k bs)) × (settled all bs v ≡ Err (Refused n (suc k) (offset k bs)))
+  pub stopped : {x : ReadFault} → Err x ≡ read hand_out form was.place was.line.now → (x ≡ Form (suc k) (offset k bs)) × (settled all bs v ≡ Err (Refused n (suc k) (offset k bs)))
   stopped {x} e =
-      let s = said_none (hand-out (text k bs) (offset k bs)) (form (text k bs)) (suc k) (offset k bs) x (here e) in
+      let s = said_none (hand_out (text k bs) (offset k bs)) (form (text k bs)) (suc k) (offset k bs) x (here e) in
       let t = ap form (sym (texts k bs short)) ∙ s.0 in
       (s.1, h.is ∙ row_stops rows bs v (form_row n (suc k) form) (ap (λ o. not (has_form o)) t) ∙ (λ i. Err (Refused n (suc k) (sym (starts k bs short) i))))

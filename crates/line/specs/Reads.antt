@@ -92,13 +92,13 @@ as_names t at ns = names ns t at
 
 -- a field without its form is refused at its first byte; else its value is handed out
 abbrev pub formed : {V X : Type 0} → (V → X) → Option V → ℕ → ℕ → Result X ReadFault
-formed hand-out None f at = Err (Form f at)
-formed hand-out (Some v) f at = Ok (hand-out v)
+formed hand_out None f at = Err (Form f at)
+formed hand_out (Some v) f at = Ok (hand_out v)
 
 -- the field at a place, read by its form
 abbrev pub read : {V X : Type 0} → (Bytes → ℕ → V → X) → (Bytes → Option V) → Place → Bytes → Result X ReadFault
-read hand-out form p bs =
-    formed (hand-out (front (drop p.at bs)) p.at) (form (front (drop p.at bs))) (next_field p.field) p.at
+read hand_out form p bs =
+    formed (hand_out (front (drop p.at bs)) p.at) (form (front (drop p.at bs))) (next_field p.field) p.at
 
 -- where a reader stands after a reading: past the field, or still before it
 abbrev pub past : {X : Type 0} → Place → Bytes → Result X ReadFault → Place

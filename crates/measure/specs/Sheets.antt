@@ -32,7 +32,7 @@ cells_fit f n =
 unfoldable pub sheet : (ℕ → ℕ) → Sheet
 sheet f = record { cells = cells_of f; whole = cells_whole f; fit = cells_fit f }
 
--- the cell of contract n; past the last one there is nothing
+-- the cell of contract n, and 0 past the last one
 abbrev pub cell : Sheet → ℕ → ℕ
 cell s n = slice_index s.cells n
 

@@ -27,10 +27,10 @@ all_taken [] b h = tt
 all_taken (c ∷ cs) b h = (taken_line b c h.0, all_taken cs (after b c) h.1)
 
 module _ {V : Type 0} (weighing : Ghosts V) where
-  pub resends : (capacity : ℕ) (calls left : List Call) (said again : List Answer) (told told-again : List V) (first second : Book) (sum other : V) →
-      Ran weighing capacity calls said told first sum → left ≡ survivors (log (empty_book capacity) calls) → Ran weighing capacity left again told-again second other →
-      Resends weighing capacity calls said told left again told-again first sum second other
-  resends capacity calls left said again told told-again first second sum other r e q =
+  pub resends : (capacity : ℕ) (calls left : List Call) (said again : List Answer) (told told_again : List V) (first second : Book) (sum other : V) →
+      Ran weighing capacity calls said told first sum → left ≡ survivors (log (empty_book capacity) calls) → Ran weighing capacity left again told_again second other →
+      Resends weighing capacity calls said told left again told_again first sum second other
+  resends capacity calls left said again told told_again first second sum other r e q =
       let start : Book = empty_book capacity in
       let law = survivors_law capacity calls in
       let one : Agrees first (end start calls) = r.follows.holds in

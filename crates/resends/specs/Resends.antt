@@ -31,10 +31,10 @@ LinesAccepted (c ∷ cs) (a ∷ later) = LineAccepted c a × LinesAccepted cs la
 -- the law of sending again: a new checker was given the calls; what is left are the survivors of that run; and a second new checker, with room for as many lives,
 -- was given these. It accepted every judged line among them, and holds what the first holds: entities, contracts, files at the same stage, at each
 -- key the same life or none, as many lives, and the same total
-pub record Resends {V : Type 0} (weighing : Ghosts V) (capacity : ℕ) (calls : List Call) (said : List Answer) (told : List V) (left : List Call) (again : List Answer) (told-again : List V) (first : Book) (sum : V) (second : Book) (other : V) : Type 0 where
+pub record Resends {V : Type 0} (weighing : Ghosts V) (capacity : ℕ) (calls : List Call) (said : List Answer) (told : List V) (left : List Call) (again : List Answer) (told_again : List V) (first : Book) (sum : V) (second : Book) (other : V) : Type 0 where
   pub first_run : Ran weighing capacity calls said told first sum
   pub leaves : left ≡ survivors (log (empty_book capacity) calls)
-  pub second_run : Ran weighing capacity left again told-again second other
+  pub second_run : Ran weighing capacity left again told_again second other
   pub lines_accepted : LinesAccepted left again
   pub same_capacity : second.capacity ≡ first.capacity
   pub same_entities : second.entities ≡ first.entities

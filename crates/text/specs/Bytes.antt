@@ -34,6 +34,7 @@ among ts t = some (bytes_eq t) ts
 
 -- ---- Pieces
 
+-- a byte put before the first of some texts
 abbrev pub onto_first : ℕ → List Bytes → List Bytes
 onto_first b [] = (b ∷ []) ∷ []
 onto_first b (t ∷ ts) = (b ∷ t) ∷ ts

@@ -9,9 +9,9 @@ use Rattle.line.proofs.Stages.{Reached, Says, begun, onward, stopped}
 use Rattle.line.proofs.Reports.{read_value, word_bytes}
 use Rattle.contract.specs.declared.types.ContractType.TheVariants.{Au}
 use Rattle.contract.specs.ContractList.{type_form, style_form, contract_forms, offered}
-use Rattle.contract.specs.Styles.{style_of, style_said}
+use Rattle.contract.specs.Styles.{style_said}
 use Rattle.contract.proofs.NameTexts.{fits_text, some_text, text_kept}
-use Rattle.contract.proofs.Readings.{stops, id_short, style_value, restyled}
+use Rattle.contract.proofs.Readings.{stops, id_short, style_value, restyled, style_of}
 use Rattle.contract.proofs.offers.read_fields.Goals as goal
 use Rattle.contract.proofs.offers.read_fields.Goals.{After-new-reader, In_ok-id, In_ok-kind, In_ok-style, In_ok-names}
 
