@@ -12,6 +12,11 @@ use Rattle.calls.specs.Said.{Spoken, call_said, answer_said, Answering, replied,
 use Rattle.calls.specs.Steps.{Step}
 use Rattle.calls.proofs.Histories.{more}
 
+-- what holds where memory was wanting
+pub wanting_so : {P : Type 0} (Q : Spoken → Type 0) (had : Bool) (r : Result Spoken AllocError) → MatchResult r Q (λ _. had ≡ false) → (had ≡ false → P) → IfErr r (λ _. P)
+wanting_so Q had (Ok x) e so = tt
+wanting_so Q had (Err x) e so = so e
+
 module _ {S M : Type 0} (weighing : Ghosts M) where
   pub continues : (was is : Checker S M) (c : Call) (a : Answer) →
       Step weighing (book_in was) was.register.total c a (book_in is) is.register.total → Continues weighing was c a is

@@ -1,7 +1,10 @@
 -- What a checker holds, as a book; and the law over every history of calls that led to it.
 use Rattle.measure.specs.declared.measure.Measure.{Ghosts}
-use Rattle.std.specs.Prelude.{◌≡◌, ℕ, List, [], ◌∷◌, ◌++◌}
-use Rattle.book.specs.Book.{Book, Call, Answer, answer}
+use Rattle.std.specs.Prelude.{◌≡◌, ℕ, List, [], ◌∷◌, ◌++◌, None}
+use Rattle.text.specs.Bytes.{Bytes}
+use Rattle.text.specs.Rows.{first_fit}
+use Rattle.filing.specs.Names.{naming_rows}
+use Rattle.book.specs.Book.{Book, Call, NameFile, Answer, answer}
 use Rattle.calls.specs.declared.checker.Checker.{Checker}
 use Rattle.calls.specs.Follows.{book_after, Follows}
 use Rattle.calls.specs.Said.{ReplyParts, reply}
@@ -15,6 +18,10 @@ book_in c = record {
   files = c.files.files;
   lives = c.register.lives;
 }
+
+-- the call names a file, and no row of naming refuses the name: the only call that may want memory
+abbrev pub NamesFile : Call → Type 0
+NamesFile c = (name : Bytes) × (c ≡ NameFile name) × (first_fit naming_rows name ≡ None)
 
 module _ {S M : Type 0} (weighing : Ghosts M) where
   -- these calls lead from a new checker with room for so many lives to this one

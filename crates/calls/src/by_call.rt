@@ -4,7 +4,7 @@ ghost use Rattle.book.specs.Book.{NameFile, Identify as IdentifyCall, Withdraw a
 ghost use Rattle.text.specs.declared.words.Kind.{Kind};
 ghost use Rattle.calls.specs.Codes.{code_in, code_due, kind_in, reply_code, reply_code_due};
 ghost use Rattle.calls.specs.Faults.{fault_code};
-ghost use Rattle.calls.specs.Held.{Continues, Replies, Stays};
+ghost use Rattle.calls.specs.Held.{Continues, Replies, Stays, NamesFile};
 ghost use Rattle.calls.specs.Said.{call_said, answer_said, reply_said, identify_answer, ending_answer};
 
 use crate::answer::{Answer, Reply};
@@ -41,6 +41,7 @@ impl<'s, S: Store, M: Measure> Checker<'s, S, M> {
     fn name_next(&mut self, name: &[u8]) -> Result<Answer, AllocError>
         ensures follows { IfOk result (λ answer. Continues M.Measure self.old (NameFile name.now) (answer_said answer) self.new) }
         ensures memory { OnErr result (Stays M.Measure self.old self.new) }
+        ensures wanting { OnErr result (NamesFile (NameFile name.now)) }
         ensures code { IfOk result (λ answer. (kind : Kind) → code_in fault_code answer ≡ code_due kind (answer_said answer)) }
     {
         of_naming(self.files.name_next(name))
@@ -51,6 +52,7 @@ impl<'s, S: Store, M: Measure> Checker<'s, S, M> {
     pub fn call(&mut self, call: &Call) -> Result<Reply<M>, AllocError>
         ensures follows { IfOk result (λ reply. Replies M.Measure self.old (call_said call.now) (reply_said reply) self.new) }
         ensures memory { OnErr result (Stays M.Measure self.old self.new) }
+        ensures wanting { OnErr result (NamesFile (call_said call.now)) }
         ensures code { IfOk result (λ reply. reply_code reply ≡ reply_code_due (kind_in (call_said call.now)) (reply_said reply)) }
     {
         let answer = match *call {

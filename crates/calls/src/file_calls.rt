@@ -2,7 +2,7 @@
 ghost use Rattle.std.specs.Prelude.{◌≡◌, true, false, length, IfOk, MatchResult};
 ghost use Rattle.book.specs.Book.{NameFile, Identify as IdentifyCall, Withdraw as WithdrawCall, Close as CloseCall};
 ghost use Rattle.files.specs.Answers.{had_memory};
-ghost use Rattle.calls.specs.Held.{Continues, Stays};
+ghost use Rattle.calls.specs.Held.{Continues, Stays, NamesFile};
 ghost use Rattle.calls.specs.Said.{naming_answer, token_answer, ending_answer};
 
 use crate::checker::Checker;
@@ -16,6 +16,7 @@ impl<'s, S: Store, M: Measure> Checker<'s, S, M> {
         ensures number { IfOk result (λ file. file.number ≡ length (self.old.files.files)) }
         ensures follows { had_memory result ≡ true → Continues M.Measure self.old (NameFile name.now) (naming_answer result) self.new }
         ensures memory { had_memory result ≡ false → Stays M.Measure self.old self.new }
+        ensures wanting { had_memory result ≡ false → NamesFile (NameFile name.now) }
     {
         self.files.name(name)
     }

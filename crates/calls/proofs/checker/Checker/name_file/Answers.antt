@@ -1,4 +1,4 @@
-use Rattle.std.proofs.Common.{cond, sym, ap, ◌∙◌, subst}
+use Rattle.std.proofs.Common.{cond, sym, refl, ap, ◌∙◌, subst}
 use Rattle.files.specs.Files.{named_in}
 use Rattle.book.specs.Book.{with_files, NameFile}
 use Rattle.calls.specs.Follows.{Follows}
@@ -15,6 +15,7 @@ returns g c =
     let files = was.files.files in
     record {
       number = c.name.ensures.number;
+      wanting = λ none. (c.args.name.now, refl, c.name.ensures.form_first none);
       follows = λ had.
           continues_files m was c.name.new.self (NameFile c.args.name.now) (naming_answer c.name.result)
           (naming_step m (book_in was) was.register.total c.args.name.now c.name.result (c.name.new.self.files) had c.name.ensures.told c.name.ensures.list);

@@ -1,4 +1,4 @@
-use Rattle.std.proofs.Common.{cond, sym, ap, ◌∙◌, subst}
+use Rattle.std.proofs.Common.{refl, cond, sym, ap, ◌∙◌, subst}
 use Rattle.files.specs.Answers.{had_memory}
 use Rattle.files.specs.Files.{named_in}
 use Rattle.book.specs.Book.{with_files, NameFile}
@@ -6,7 +6,7 @@ use Rattle.calls.specs.declared.checker.Checker.{Checker}
 use Rattle.calls.specs.Follows.{Follows}
 use Rattle.calls.specs.Held.{book_in}
 use Rattle.calls.specs.Said.{naming_answer}
-use Rattle.calls.proofs.Checkers.{continues, named_so}
+use Rattle.calls.proofs.Checkers.{continues, named_so, wanting_so}
 use Rattle.calls.proofs.Moves.{naming_step}
 use Rattle.calls.proofs.checker.Checker.name_next.Goals as goal
 
@@ -22,4 +22,5 @@ returns g c =
     (naming_step m (book_in was) was.register.total c.args.name.now named.result (named.new.self.files) had named.ensures.told named.ensures.list))
     (λ none capacity past f. subst (λ fs. Follows m capacity past (with_files (book_in was) fs) was.register.total)
     (sym (named.ensures.list ∙ ap (λ b. cond b (named_in files c.args.name.now) files) none)) f) in
-    record { follows = so.0; memory = so.1; code = c.of_naming.ensures.code }
+    let wanting = wanting_so _ (had_memory named.result) c.of_naming.result c.of_naming.ensures.answer (λ none. (c.args.name.now, refl, named.ensures.form_first none)) in
+    record { follows = so.0; memory = so.1; wanting = wanting; code = c.of_naming.ensures.code }
