@@ -13,7 +13,7 @@ use Rattle.book.specs.Book.{Call, Answer, Refused as RefusedAnswer}
 use Rattle.calls.specs.declared.answer.Given.{Given}
 use Rattle.calls.specs.declared.checker.Checker.{Checker}
 use Rattle.calls.specs.Follows.{book_after}
-use Rattle.calls.specs.Held.{Led}
+use Rattle.calls.specs.Held.{Led, NamesFile}
 use Rattle.calls.specs.Said.{answer_said}
 use Rattle.session.specs.declared.file_in_hand.FileInHand.{FileInHand}
 use Rattle.session.specs.declared.file_in_hand.FileInHand.TheVariants as file
@@ -36,6 +36,11 @@ abbrev pub said : Reply → Said
 said (reply.Told t) = Answered (told t)
 said (reply.Positions sums) = AskedPositions
 said (reply.CheckWord word) = AskedCheckWord
+
+-- the only call that may want memory
+abbrev pub MayWant : Option Call → Type 0
+MayWant None = ⊥
+MayWant (Some c) = NamesFile c
 
 module _ {S M : Type 0} (weighing : Ghosts M) where
   -- for every list of calls that led to `was`: the answer is the book's to this call, or that of a command that makes none; the file in hand is then

@@ -9,7 +9,7 @@ ghost use Rattle.calls.specs.Held.{Stays};
 ghost use Rattle.calls.specs.Said.{answer_said, call_said};
 ghost use Rattle.session.specs.Session.{call_by, call_of_line, ending, kind_asked, NoFile, OnlyNamed};
 ghost use Rattle.session.specs.Refusals.{refusal_code};
-ghost use Rattle.session.specs.Held.{in_hand, told, Does};
+ghost use Rattle.session.specs.Held.{in_hand, told, Does, MayWant};
 
 use crate::refusals::Refusal;
 use calls::replies::{of_contract, of_ending, of_entity, of_judging};
@@ -45,6 +45,7 @@ fn name_file<S: Store, M: Measure>(
     ensures follows { IfOk result.1 (λ res. Does M.Measure checker.old NoFile (Some (NameCall name.now)) (told res) (in_hand result.0) checker.new) }
     ensures code { IfOk result.1 (λ res. (kind : Kind) → code_in refusal_code res ≡ code_due kind (told res)) }
     ensures memory { OnErr result.1 ((in_hand result.0 ≡ NoFile) × Stays M.Measure checker.old checker.new) }
+    ensures wanting { OnErr result.1 (MayWant (Some (NameCall name.now))) }
 {
     match checker.name_file(name) {
         Ok(file) => (FileInHand::Named(file), Ok(Ok(Given::Accepted))),
@@ -83,6 +84,7 @@ impl FileInHand {
         ensures follows { IfOk result.1 (λ res. Does M.Measure checker.old (in_hand self) (call_by (in_hand self) (asked command.entry)) (told res) (in_hand result.0) checker.new) }
         ensures code { IfOk result.1 (λ res. code_in refusal_code res ≡ code_due (kind_asked (asked command.entry)) (told res)) }
         ensures memory { OnErr result.1 ((in_hand result.0 ≡ in_hand self) × Stays M.Measure checker.old checker.new) }
+        ensures wanting { OnErr result.1 (MayWant (call_by (in_hand self) (asked command.entry))) }
     {
         let (file, told) = match (command, self) {
             (Command::NameFile(name), FileInHand::None) => return name_file(checker, name),

@@ -1,8 +1,8 @@
 // What a line of input is answered.
 ghost use Rattle.std.specs.Prelude.{◌≡◌, IfOk, OnErr};
 ghost use Rattle.calls.specs.Held.{Stays};
-ghost use Rattle.session.specs.Held.{in_hand, Answers, TellsHeld, HasText};
-ghost use Rattle.session.specs.Session.{kind_of_line};
+ghost use Rattle.session.specs.Held.{in_hand, Answers, TellsHeld, HasText, MayWant};
+ghost use Rattle.session.specs.Session.{call_of_line, kind_of_line};
 
 use crate::file_in_hand::{FileInHand, Told};
 use crate::refusals::Refusal;
@@ -34,6 +34,7 @@ impl FileInHand {
         ensures held { IfOk result.1 (λ reply. TellsHeld ⟦<Both<Sheet, CheckWord> as Measure>⟧ checker.old reply) }
         ensures text { IfOk result.1 (λ reply. HasText (kind_of_line line.now) reply) }
         ensures memory { OnErr result.1 ((in_hand result.0 ≡ in_hand self) × Stays ⟦<Both<Sheet, CheckWord> as Measure>⟧ checker.old checker.new) }
+        ensures wanting { OnErr result.1 (MayWant (call_of_line (in_hand self) line.now)) }
     {
         match Command::read(line) {
             Err(fault) => (self, Ok(Reply::Told(Err(Refusal::Unread(fault))))),
