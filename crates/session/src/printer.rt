@@ -32,15 +32,18 @@ fn answer_line(told: Told) -> AnswerLine
     ensures { line_text result ≡ told_text told }
 {
     match told {
-        Ok(Given::Receipt(Receipt {
-            judged,
-            accepted,
-            refused,
-        })) => AnswerLine::Receipt {
-            judged,
-            accepted,
-            refused,
-        },
+        Ok(Given::Receipt(receipt)) => {
+            let Receipt {
+                judged,
+                accepted,
+                refused,
+            } = receipt;
+            AnswerLine::Receipt {
+                judged,
+                accepted,
+                refused,
+            }
+        }
         Ok(_) => AnswerLine::Accepted,
         Err(refusal) => refusal.line(),
     }
@@ -103,7 +106,9 @@ impl Printer {
             Reply::CheckWord(word) => return self.line(&AnswerLine::CheckWord { word: *word }),
             Reply::Told(told) => self.told(*told)?,
         }
-        if let Reply::Told(Err(refusal)) = *reply && self.explains {
+        if let Reply::Told(Err(refusal)) = *reply
+            && self.explains
+        {
             let explanation = Explanation {
                 line_number: self.answered,
                 line,
