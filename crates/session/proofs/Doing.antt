@@ -1,8 +1,8 @@
 -- What a command does, from what its call promises.
 use Rattle.measure.specs.declared.measure.Measure.{Ghosts}
-use Rattle.std.proofs.Common.{◌≡◌, ℕ, cond, List, length, is_some, Some, None, Option, sym, refl, ap, ◌∙◌, arith}
+use Rattle.std.proofs.Common.{◌≡◌, ℕ, cond, length, is_some, Some, None, Option, sym, refl, ap, ◌∙◌, arith}
 use Rattle.text.specs.Bytes.{Bytes}
-use Rattle.book.specs.Book.{Book, Call, NameFile, Identify, Answer, Accepted, Refused, verdict, granted, answered}
+use Rattle.book.specs.Book.{Book, Call, NameFile, Identify, Answer, Accepted, Refused, granted, answered}
 use Rattle.calls.specs.declared.checker.Checker.{Checker}
 use Rattle.calls.specs.Follows.{book_after}
 use Rattle.calls.specs.Held.{Continues}

@@ -1,6 +1,6 @@
 -- The calls that the lines of an input make, one after another.
 use Rattle.measure.specs.declared.measure.Measure.{Ghosts}
-use Rattle.std.proofs.Common.{◌≡◌, ℕ, List, [], ◌∷◌, ◌++◌, length, Some, None, Option, sym, ap, ◌∙◌, subst, append_assoc, append-nil}
+use Rattle.std.proofs.Common.{◌≡◌, ℕ, List, [], ◌∷◌, ◌++◌, Some, None, Option, sym, ap, ◌∙◌, subst, append_assoc, append-nil}
 use Rattle.text.specs.Bytes.{Bytes}
 use Rattle.book.specs.Book.{empty_book, Call}
 use Rattle.book.proofs.Runs.{end_append}

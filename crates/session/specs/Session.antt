@@ -1,5 +1,5 @@
 -- A session: lines of input given to one checker, one after another, with at most one file in hand.
-use Rattle.std.specs.Prelude.{ℕ, Bool, cond, not, List, [], ◌∷◌, ◌++◌, length, is_some, Some, None, Option}
+use Rattle.std.specs.Prelude.{ℕ, cond, List, [], ◌∷◌, ◌++◌, length, is_some, Some, None, Option}
 use Rattle.text.specs.Bytes.{Bytes, then, pieces}
 use Rattle.text.specs.Rows.{first_fit}
 use Rattle.commands.specs.Commands.{Asked, command_rows, asked_by}

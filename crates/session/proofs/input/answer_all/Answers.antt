@@ -1,9 +1,7 @@
-use Rattle.std.proofs.Common.{◌≡◌, ℕ, List, ◌∷◌, [], ◌++◌, IfOk, OnOk, Ok, Err, Result, sym, ap, ◌∙◌, subst, append-nil, rules}
-use Rattle.book.specs.Book.{Call}
-use Rattle.calls.specs.Follows.{book_after}
+use Rattle.std.proofs.Common.{[], ◌++◌, IfOk, OnOk, Ok, Err, Result, sym, subst, append-nil}
 use Rattle.calls.specs.Held.{Led}
-use Rattle.session.specs.Session.{call_of_line, in_hand_after, ending, listed, lines_of}
-use Rattle.session.specs.Held.{in_hand, Answers, GivenInput}
+use Rattle.session.specs.Session.{ending, listed}
+use Rattle.session.specs.Held.{in_hand, Answers}
 use Rattle.session.proofs.Giving.{under_line, under_all}
 use Rattle.session.proofs.Measures.{both_totals}
 use Rattle.session.proofs.input.answer_all.Goals as goal

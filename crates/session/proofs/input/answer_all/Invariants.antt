@@ -1,7 +1,3 @@
-use Rattle.measure.specs.declared.both.Both.{Both}
-use Rattle.measure.specs.declared.measure.Measure.{Ghosts}
-use Rattle.measure.specs.declared.sheet.Sheet.{Sheet}
-use Rattle.measure.specs.declared.word.CheckWord.{CheckWord}
 use Rattle.session.specs.Held.{in_hand}
 use Rattle.session.proofs.Giving.{Under}
 use Rattle.session.proofs.Measures.{both_totals}

@@ -1,4 +1,4 @@
-use Rattle.std.proofs.Common.{◌≡◌, ◌++◌, [], IfOk, OnOk, Ok, sym, ap, ◌∙◌, subst, vec_items, option_map}
+use Rattle.std.proofs.Common.{◌≡◌, ◌++◌, [], IfOk, OnOk, sym, ap, ◌∙◌, subst, vec_items, option_map}
 use Rattle.calls.specs.Said.{call_said, calls_said}
 use Rattle.session.specs.Session.{call_of_line, listed}
 use Rattle.session.specs.Held.{in_hand, Answers}

@@ -1,4 +1,4 @@
-use Rattle.std.proofs.Common.{◌≡◌, ℕ, ◌+◌, ◌<◌, [], ◌∷◌, length, take, drop, sym, ap, ◌∙◌, rules, arith}
+use Rattle.std.proofs.Common.{◌+◌, ◌<◌, ◌∷◌, length, take, drop, sym, ap, ◌∙◌, rules}
 use Rattle.session.specs.Session.{lines_of}
 use Rattle.session.proofs.InputLines.{next_line}
 use Rattle.session.proofs.lines.LinesIterator.next.Goals as goal
