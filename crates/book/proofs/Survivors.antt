@@ -18,7 +18,7 @@ use Rattle.life.specs.Keys.{same_key}
 use Rattle.life.specs.Lives.{Lives, look, altered, erase}
 use Rattle.life.specs.Rules.{is_new, is_error, life_rows}
 use Rattle.life.proofs.KeyOrder.{parts_same, parts_eq}
-use Rattle.book.specs.Book.{Book, empty_book, with_files, with_lives, no_file, file_of, put_file, Call, AddEntity, AddContract, NameFile, Identify, Withdraw, Close, Judge, LookUp, Total, told_by, key_of, claimed, is_full, asked, verdict, acted, applied, refused_in, done, changed, after, end}
+use Rattle.book.specs.Book.{Book, empty_book, with_files, with_lives, no_file, file_of, put_file, Call, AddEntity, AddContract, NameFile, Identify, Withdraw, Close, Judge, LookUp, Total, told_by, key_of, wanted, is_full, asked, verdict, acted, applied, refused_in, done, changed, after, end}
 use Rattle.book.specs.Laws.{no_line, subject, Entry, entry, log, struck, survivors, Taken, EveryLineAccepted, FewerLines, Alike, SurvivorsLaw}
 use Rattle.book.proofs.Tables.{none_fits, Passed, passed, passes, room_rows}
 use Rattle.book.proofs.Tidy.{file_takes}
@@ -154,15 +154,15 @@ room_too Error full full' h e = refl
 room_too Cancel full full' h e = refl
 
 -- the same life of its key makes the same claim
-claimed_too : (ps ls : Lives) (x : Told) → look (key_of x) ps ≡ look (key_of x) ls → claimed ps x ≡ claimed ls x
-claimed_too ps ls x e i = record { does = x.says.action; when = x.says.time; held = e i }
+wanted_too : (ps ls : Lives) (x : Told) → look (key_of x) ps ≡ look (key_of x) ls → wanted ps x ≡ wanted ls x
+wanted_too ps ls x e i = record { does = x.says.action; when = x.says.time; held = e i }
 
 -- an accepted line that is not left out is accepted in the second book too
 line_too : (n : ℕ) (bs : Bytes) (keep : KeyParts → Bool) (b b' : Book) → Shadow keep b b' → keep (key_of (told_by b.contracts bs)) ≡ true → Passed b n bs → Passed b' n bs
 line_too n bs keep b b' s spare p =
     let told-too : told_by b'.contracts bs ≡ told_by b.contracts bs = ap (λ cs. told_by cs bs) s.contracts_too in
-    let held-too : claimed b'.lives (told_by b'.contracts bs) ≡ claimed b.lives (told_by b.contracts bs) =
-    ap (claimed b'.lives) told-too ∙ claimed_too b'.lives b.lives (told_by b.contracts bs)
+    let held-too : wanted b'.lives (told_by b'.contracts bs) ≡ wanted b.lives (told_by b.contracts bs) =
+    ap (wanted b'.lives) told-too ∙ wanted_too b'.lives b.lives (told_by b.contracts bs)
     (ap (look (key_of (told_by b.contracts bs))) s.lives_kept ∙ look_kept keep (key_of (told_by b.contracts bs)) spare b.lives) in
     let full : is_full b' ≡ true → is_full b ≡ true =
     λ h. le-leb _ _ (omega (arith, leb-true _ _ h, s.as_large, length_kept keep b.lives, ap length s.lives_kept)) in

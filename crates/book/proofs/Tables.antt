@@ -8,7 +8,7 @@ use Rattle.line.specs.Lines.{line_rows}
 use Rattle.contract.specs.ContractList.{Contract, offered, text_rows, listing_rows, contract_rows, Told, market_rows}
 use Rattle.filing.specs.Files.{taking_rows}
 use Rattle.life.specs.Rules.{is_new, life_rows}
-use Rattle.book.specs.Book.{Book, Judge, LookUp, file_of, told_by, claimed, Asked, asked, verdict}
+use Rattle.book.specs.Book.{Book, Judge, LookUp, file_of, told_by, wanted, Asked, asked, verdict}
 
 -- ---- Joined tables
 
@@ -51,7 +51,7 @@ pub judging_parts : (b : Book) (n : ℕ) (bs : Bytes) →
     ≡ or_else (first_fit taking_rows (file_of b.files n))
     (or_else (first_fit line_rows bs)
     (or_else (first_fit market_rows (told_by b.contracts bs))
-    (or_else (first_fit life_rows (claimed b.lives (told_by b.contracts bs))) (first_fit room_rows (asked b n bs)))))
+    (or_else (first_fit life_rows (wanted b.lives (told_by b.contracts bs))) (first_fit room_rows (asked b n bs)))))
 judging_parts b n bs =
     fit_parts (λ y. y.in_file) taking_rows from_line (asked b n bs)
     ∙ ap (or_else (first_fit taking_rows (file_of b.files n)))
@@ -65,7 +65,7 @@ pub record Passed (b : Book) (n : ℕ) (bs : Bytes) : Type 0 where
   pub takes : first_fit taking_rows (file_of b.files n) ≡ None
   pub reads : first_fit line_rows bs ≡ None
   pub lists : first_fit market_rows (told_by b.contracts bs) ≡ None
-  pub lives_on : first_fit life_rows (claimed b.lives (told_by b.contracts bs)) ≡ None
+  pub lives_on : first_fit life_rows (wanted b.lives (told_by b.contracts bs)) ≡ None
   pub has_room : first_fit room_rows (asked b n bs) ≡ None
 
 pub passed : (b : Book) (n : ℕ) (bs : Bytes) → verdict b (Judge n bs) ≡ None → Passed b n bs
@@ -73,7 +73,7 @@ passed b n bs e =
     let f = or_none (first_fit taking_rows (file_of b.files n)) _ (sym (judging_parts b n bs) ∙ e) in
     let l = or_none (first_fit line_rows bs) _ f.1 in
     let m = or_none (first_fit market_rows (told_by b.contracts bs)) _ l.1 in
-    let x = or_none (first_fit life_rows (claimed b.lives (told_by b.contracts bs))) _ m.1 in
+    let x = or_none (first_fit life_rows (wanted b.lives (told_by b.contracts bs))) _ m.1 in
     record { takes = f.0; reads = l.0; lists = m.0; lives_on = x.0; has_room = x.1 }
 
 pub passes : (b : Book) (n : ℕ) (bs : Bytes) → Passed b n bs → verdict b (Judge n bs) ≡ None

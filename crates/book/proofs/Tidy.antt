@@ -16,7 +16,7 @@ use Rattle.life.specs.Keys.{same_key}
 use Rattle.life.specs.Lives.{Lives, look, altered, erase, Unique}
 use Rattle.life.specs.Rules.{life_rows, standing, is_new, new_life, modified, cancelled}
 use Rattle.life.proofs.Lives.{unique_from, unique_erase, unique_altered, length_altered, length_erase}
-use Rattle.book.specs.Book.{Book, empty_book, with_files, with_lives, file_of, put_file, Call, AddEntity, AddContract, NameFile, Identify, Withdraw, Close, Judge, LookUp, Total, told_by, key_of, claimed, asked, verdict, acted, refused_in, changed, after, end}
+use Rattle.book.specs.Book.{Book, empty_book, with_files, with_lives, file_of, put_file, Call, AddEntity, AddContract, NameFile, Identify, Withdraw, Close, Judge, LookUp, Total, told_by, key_of, wanted, asked, verdict, acted, refused_in, changed, after, end}
 use Rattle.book.specs.Laws.{TidyFile, TidyLife, Tidy, TidyLaw}
 use Rattle.book.proofs.Tables.{or_none, none_fits, Passed, passed, contract_parts, room_rows}
 
@@ -90,7 +90,7 @@ not_standing (Some x) e = let z : ◌≡◌ {A = Bool} true false = e in absurd 
 
 room : (b : Book) (n : ℕ) (bs : Bytes) → Passed b n bs → Room (told_by b.contracts bs).says.action (key_of (told_by b.contracts bs)) b.capacity b.lives
 room b n bs p = by (told_by b.contracts bs).says.action
-    (none_fits life_rows (claimed b.lives (told_by b.contracts bs)) p.lives_on).0
+    (none_fits life_rows (wanted b.lives (told_by b.contracts bs)) p.lives_on).0
     (none_fits room_rows (asked b n bs) p.has_room).0
   where
     k : KeyParts

@@ -12,7 +12,7 @@ use Rattle.filing.specs.Files.{Identified, Ended, File, named_file, at_stage, id
 pub use Rattle.filing.specs.Files.{no_file, file_of}
 use Rattle.life.specs.Parts.{KeyParts, LifeParts}
 use Rattle.life.specs.Lives.{Lives, look, altered, erase}
-use Rattle.life.specs.Rules.{Claim, is_new, life_rows, new_life, modified, cancelled}
+use Rattle.life.specs.Rules.{Wanted, acting_rows, new_life, modified, cancelled}
 
 -- ---- What is held
 
@@ -72,8 +72,8 @@ key_of x = record {
   of_side = x.says.side;
 }
 
-abbrev pub claimed : Lives → Told → Claim
-claimed ls x = record { does = x.says.action; when = x.says.time; held = look (key_of x) ls }
+abbrev pub wanted : Lives → Told → Wanted
+wanted ls x = record { does = x.says.action; when = x.says.time; held = look (key_of x) ls }
 
 -- as many lives are held as there may be
 abbrev pub is_full : Book → Bool
@@ -87,7 +87,7 @@ pub record Asked : Type 0 where
   pub in_file : File
   pub line : Bytes
   pub of_list : Told
-  pub of_life : Claim
+  pub of_life : Wanted
   pub full : Bool
 
 abbrev pub asked : Book → ℕ → Bytes → Asked
@@ -95,7 +95,7 @@ asked b n bs = record {
   in_file = file_of b.files n;
   line = bs;
   of_list = told_by b.contracts bs;
-  of_life = claimed b.lives (told_by b.contracts bs);
+  of_life = wanted b.lives (told_by b.contracts bs);
   full = is_full b;
 }
 
@@ -105,8 +105,7 @@ judging_rows =
     looking_at (λ x. x.in_file) taking_rows
     ++ (looking_at (λ x. x.line) line_rows
     ++ (looking_at (λ x. x.of_list) market_rows
-    ++ (looking_at (λ x. x.of_life) life_rows
-    ++ row 47 0 (λ x. is_new x.of_life.does && x.full) ∷ [])))
+    ++ looking_at (λ x. (x.of_life, x.full)) acting_rows))
 
 -- 1, 2, 11 to 21; 31 to 33
 abbrev pub looking_rows : List (Row (Bytes × Told))

@@ -15,7 +15,7 @@ use Rattle.filing.specs.Files.{File, taking_rows, one_accepted}
 use Rattle.files.specs.Files.{file_of, counted}
 use Rattle.life.specs.Parts.{key_parts, life_parts}
 use Rattle.life.specs.Lives.{look, Same}
-use Rattle.life.specs.Rules.{Claim, is_new, life_rows}
+use Rattle.life.specs.Rules.{Wanted, is_new, life_rows}
 use Rattle.claims.specs.declared.claimed.Claim as code
 use Rattle.claims.specs.declared.faults.LineFault.{LineFault}
 use Rattle.claims.specs.Claims.{Claimed, claimed_by, claiming}
@@ -23,8 +23,8 @@ use Rattle.claims.specs.Faults.{line_fault_number, line_fault_field, line_fault_
 use Rattle.claims.specs.Made.{claim_of, claim_in}
 use Rattle.register.specs.declared.faults.ActFault.{ActFault}
 use Rattle.register.specs.Faults.{act_field, refused_by}
-use Rattle.register.specs.Judged.{refusal, lives_after}
-use Rattle.book.specs.Book.{Book, with_files, Judge, Refused, told_by, key_of, claimed, looking_rows, verdict, changed, after, answered, answer}
+use Rattle.register.specs.Judged.{act_refusal, lives_after}
+use Rattle.book.specs.Book.{Book, with_files, Judge, Refused, told_by, key_of, wanted, looking_rows, verdict, changed, after, answered, answer}
 use Rattle.book.proofs.Tables.{fit_parts, judging_parts, looking_parts, passed}
 use Rattle.calls.specs.declared.faults.JudgeFault.{JudgeFault}
 use Rattle.calls.specs.declared.faults.JudgeFault.TheVariants as fault
@@ -38,15 +38,15 @@ or_else_assoc (Some a) y z = refl
 
 -- the refusal of a read line by the lives
 abbrev pub by_lives : Book → Told → Option (ℕ × ℕ)
-by_lives b x = refusal b.capacity (key_of x) x.says.action (claimed_by x).tells b.lives
+by_lives b x = act_refusal b.capacity (key_of x) x.says.action (claimed_by x).tells b.lives
 
 -- a line is refused by its file's rows, else by its text's and contract's, else by those of the lives
 pub line_verdict : (b : Book) (n : ℕ) (bs : Bytes) →
     verdict b (Judge n bs) ≡ or_else (first_fit taking_rows (file_of b.files n)) (or_else (first_fit looking_rows (bs, told_by b.contracts bs)) (by_lives b (told_by b.contracts bs)))
 line_verdict b n bs =
     let x : Told = told_by b.contracts bs in
-    let lives : by_lives b x ≡ or_else (first_fit life_rows (claimed b.lives x)) (cond (is_new x.says.action && leb b.capacity (length b.lives)) (Some (47, 0)) None) =
-    fit_parts {Y = Claim × Bool} (λ y. y.0) life_rows (row 47 0 (λ y. is_new y.0.does && y.1) ∷ []) (claimed b.lives x, leb b.capacity (length b.lives)) in
+    let lives : by_lives b x ≡ or_else (first_fit life_rows (wanted b.lives x)) (cond (is_new x.says.action && leb b.capacity (length b.lives)) (Some (47, 0)) None) =
+    fit_parts {Y = Wanted × Bool} (λ y. y.0) life_rows (row 47 0 (λ y. is_new y.0.does && y.1) ∷ []) (wanted b.lives x, leb b.capacity (length b.lives)) in
     judging_parts b n bs
     ∙ ap (or_else (first_fit taking_rows (file_of b.files n)))
     (ap (λ y. or_else (first_fit line_rows bs) (or_else (first_fit market_rows x) y)) (sym lives)
@@ -111,8 +111,8 @@ module _ {V : Type 0} (weighing : Ghosts V) where
   pub lives_decide : (was is : Book) (t s : V) (n : ℕ) (bs : Bytes) (c : code.Claim) (kind : Kind) (r : Result (Unit {0}) ActFault) →
       None ≡ first_fit taking_rows (file_of was.files n) → claim_in (Ok c) ≡ claiming was.contracts bs →
       is.entities ≡ was.entities → is.contracts ≡ was.contracts → is.files ≡ was.files → is.capacity ≡ was.capacity →
-      refused_by r ≡ refusal was.capacity (key_parts c.key) c.action (life_parts c.told) was.lives →
-      Same is.lives (lives_after (refusal was.capacity (key_parts c.key) c.action (life_parts c.told) was.lives) (key_parts c.key) c.action (life_parts c.told) was.lives) →
+      refused_by r ≡ act_refusal was.capacity (key_parts c.key) c.action (life_parts c.told) was.lives →
+      Same is.lives (lives_after (act_refusal was.capacity (key_parts c.key) c.action (life_parts c.told) was.lives) (key_parts c.key) c.action (life_parts c.told) was.lives) →
       (t ≡ book_total weighing was → s ≡ book_total weighing is) →
       Tried weighing was t n bs (judge_answer (acted_result kind bs r)) is s
   lives_decide was is t s n bs c kind r free e entities contracts files size answers holds sums =
@@ -120,10 +120,10 @@ module _ {V : Type 0} (weighing : Ghosts V) where
       let claim = a_claim bs (claimed_by y) c (first_fit looking_rows (bs, y)) e in
       let v : verdict was (Judge n bs) ≡ by_lives was y =
       line_verdict was n bs ∙ ap (λ o. or_else o (or_else (first_fit looking_rows (bs, y)) (by_lives was y))) (sym free) ∙ ap (λ o. or_else o (by_lives was y)) claim.0 in
-      let same : refusal was.capacity (key_parts c.key) c.action (life_parts c.told) was.lives ≡ by_lives was y =
-      ap (λ q. refusal was.capacity q.of_key q.acts q.tells was.lives) claim.1 in
-      let lives : lives_after (refusal was.capacity (key_parts c.key) c.action (life_parts c.told) was.lives) (key_parts c.key) c.action (life_parts c.told) was.lives ≡ (after was (Judge n bs)).lives =
-      ap (λ q. lives_after (refusal was.capacity q.of_key q.acts q.tells was.lives) q.of_key q.acts q.tells was.lives) claim.1
+      let same : act_refusal was.capacity (key_parts c.key) c.action (life_parts c.told) was.lives ≡ by_lives was y =
+      ap (λ q. act_refusal was.capacity q.of_key q.acts q.tells was.lives) claim.1 in
+      let lives : lives_after (act_refusal was.capacity (key_parts c.key) c.action (life_parts c.told) was.lives) (key_parts c.key) c.action (life_parts c.told) was.lives ≡ (after was (Judge n bs)).lives =
+      ap (λ q. lives_after (act_refusal was.capacity q.of_key q.acts q.tells was.lives) q.of_key q.acts q.tells was.lives) claim.1
       ∙ ap (λ o. lives_after o (key_of y) y.says.action (claimed_by y).tells was.lives) (sym v)
       ∙ lives_so was n bs (verdict was (Judge n bs)) in
       record {

@@ -10,24 +10,24 @@ use Rattle.commands.specs.declared.command.CommandFault.TheVariants.{Length, Unk
 -- ---- Commands
 
 -- what a command asks for
-pub data Asked : Type 0 where
-  AddEntity AddContract NameFile Identify Judge : Bytes → Asked
-  Positions CheckWord EndFile : Asked
+pub data CommandParts : Type 0 where
+  AddEntity AddContract NameFile Identify Judge : Bytes → CommandParts
+  Positions CheckWord EndFile : CommandParts
 
-abbrev pub asked : Command → Asked
-asked (command.AddEntity code) = AddEntity code.now
-asked (command.AddContract text) = AddContract text.now
-asked (command.NameFile name) = NameFile name.now
-asked (command.Identify code) = Identify code.now
-asked (command.Judge line) = Judge line.now
-asked command.Positions = Positions
-asked command.CheckWord = CheckWord
-asked command.EndFile = EndFile
+abbrev pub command_parts : Command → CommandParts
+command_parts (command.AddEntity code) = AddEntity code.now
+command_parts (command.AddContract text) = AddContract text.now
+command_parts (command.NameFile name) = NameFile name.now
+command_parts (command.Identify code) = Identify code.now
+command_parts (command.Judge line) = Judge line.now
+command_parts command.Positions = Positions
+command_parts command.CheckWord = CheckWord
+command_parts command.EndFile = EndFile
 
 -- ---- Lines
 
 -- the letters that a semicolon and a text follow: R, K, F, I and P
-abbrev pub with_text : ℕ → Bytes → Option Asked
+abbrev pub with_text : ℕ → Bytes → Option CommandParts
 with_text letter text =
     cond (letter == 82) (Some (AddEntity text))
     (cond (letter == 75) (Some (AddContract text))
@@ -36,16 +36,16 @@ with_text letter text =
     (cond (letter == 80) (Some (Judge text)) None))))
 
 -- the letters that stand alone: T, W and X
-abbrev pub alone : ℕ → Option Asked
+abbrev pub alone : ℕ → Option CommandParts
 alone letter =
     cond (letter == 84) (Some Positions)
     (cond (letter == 87) (Some CheckWord)
     (cond (letter == 88) (Some EndFile) None))
 
-abbrev pub asked_by : Bytes → Option Asked
-asked_by [] = None
-asked_by (letter ∷ []) = alone letter
-asked_by (letter ∷ mark ∷ text) = cond (mark == 59) (with_text letter text) None
+abbrev pub command_form : Bytes → Option CommandParts
+command_form [] = None
+command_form (letter ∷ []) = alone letter
+command_form (letter ∷ mark ∷ text) = cond (mark == 59) (with_text letter text) None
 
 -- ---- Refusals
 
@@ -53,7 +53,7 @@ asked_by (letter ∷ mark ∷ text) = cond (mark == 59) (with_text letter text) 
 abbrev pub command_rows : List (Row Bytes)
 command_rows =
     row 1 0 (λ bs. nat_lt 514 (length bs))
-    ∷ row 66 0 (λ bs. not (is_some (asked_by bs)))
+    ∷ row 66 0 (λ bs. not (is_some (command_form bs)))
     ∷ []
 
 -- the published number

@@ -1,7 +1,7 @@
 // A line of input as a command.
 ghost use Rattle.std.specs.Prelude.{◌≡◌, Some, IfOk};
 ghost use Rattle.text.specs.Rows.{first_fit};
-ghost use Rattle.commands.specs.Commands.{command_number, refusal_in, command_rows, asked, asked_by};
+ghost use Rattle.commands.specs.Commands.{command_number, refusal_in, command_rows, command_parts, command_form};
 
 // The most bytes of a line of input: a letter, a semicolon and a report line.
 const LONGEST: usize = 514;
@@ -52,7 +52,7 @@ impl<'a> Command<'a> {
     // The command of a line, which is without its line feed.
     pub fn read(line: &'a [u8]) -> Result<Command<'a>, CommandFault>
         ensures refused { refusal_in result ≡ first_fit command_rows line.now }
-        ensures command { IfOk result (λ command. Some (asked command) ≡ asked_by line.now) }
+        ensures command { IfOk result (λ command. Some (command_parts command) ≡ command_form line.now) }
     {
         if line.len() > LONGEST {
             return Err(CommandFault::Length);

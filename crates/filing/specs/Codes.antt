@@ -8,9 +8,9 @@ use Rattle.filing.specs.Faults.{name_number}
 use Rattle.filing.specs.Names.{name_form, code_offset}
 
 -- the bytes of a code, and where they stand in the name
-abbrev pub code_in : Option EntityCode → Option (Bytes × ℕ)
-code_in None = None
-code_in (Some code) = Some (code.text.now, code.at)
+abbrev pub code_part : Option EntityCode → Option (Bytes × ℕ)
+code_part None = None
+code_part (Some code) = Some (code.text.now, code.at)
 
 -- the code of a name and its offset, if the name has its form
 abbrev pub code_there : Bytes → Option (Bytes × ℕ)

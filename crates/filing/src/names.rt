@@ -1,6 +1,6 @@
 // Names of files.
 ghost use Rattle.std.specs.Prelude.{◌≡◌, ◌+◌, ◌&&◌, length, take, drop, IfOk};
-ghost use Rattle.filing.specs.Codes.{code_in, naming_in, code_there};
+ghost use Rattle.filing.specs.Codes.{code_part, naming_in, code_there};
 ghost use Rattle.filing.specs.Faults.{name_number as number_of};
 ghost use Rattle.filing.specs.Names.{a_date, a_schema, a_version, a_last, naming};
 
@@ -72,7 +72,7 @@ fn surround_code(date: &[u8], schema: &[u8], version: &[u8], last: &[u8]) -> boo
 
 // The code in a name of five parts joined by `_`: date, schema, version, code and number.
 fn code_in<'a>(name: &'a [u8]) -> Option<EntityCode<'a>>
-    ensures { code_in result ≡ code_there name.now }
+    ensures { code_part result ≡ code_there name.now }
 {
     let mut parts = name.split(|b| *b == b'_');
     let date = parts.next()?;

@@ -1,14 +1,14 @@
 -- The rules of a life: what each action needs, and what it does.
-use Rattle.std.specs.Prelude.{ℕ, Bool, true, false, not, ◌&&◌, List, [], ◌∷◌, ℤ, is_some, Some, None, Option, nat_lt}
+use Rattle.std.specs.Prelude.{ℕ, Bool, true, false, not, ◌&&◌, List, [], ◌∷◌, ◌++◌, ℤ, is_some, Some, None, Option, nat_lt}
 use Rattle.text.specs.declared.words.Action.{Action}
 use Rattle.text.specs.declared.words.Action.TheVariants.{New, Modify, Error, Cancel}
-use Rattle.text.specs.Rows.{Row, row}
+use Rattle.text.specs.Rows.{Row, row, looking_at}
 use Rattle.life.specs.declared.life.State.{State}
 use Rattle.life.specs.declared.life.State.TheVariants.{Open, Cancelled}
 use Rattle.life.specs.Parts.{LifeParts}
 
 -- what a line wants of its key's life, if one stands
-pub record Claim : Type 0 where
+pub record Wanted : Type 0 where
   pub does : Action
   pub when : ℕ
   pub held : Option LifeParts
@@ -52,7 +52,7 @@ abbrev pub is_cancel : Action → Bool
 is_cancel = by_action false false false true
 
 -- the table of refusals, in the order in which they are tried
-abbrev pub life_rows : List (Row Claim)
+abbrev pub life_rows : List (Row Wanted)
 life_rows =
     row 41 7 (λ x. is_new x.does && standing x.held)
     ∷ row 42 7 (λ x. is_modify x.does && not (open_life x.held))
@@ -61,6 +61,10 @@ life_rows =
     ∷ row 45 7 (λ x. is_error x.does && not (standing x.held))
     ∷ row 46 8 (λ x. not (is_new x.does) && earlier x.when x.held)
     ∷ []
+
+-- the same, and a New where as many lives are held as there may be
+abbrev pub acting_rows : List (Row (Wanted × Bool))
+acting_rows = looking_at (λ x. x.0) life_rows ++ row 47 0 (λ x. is_new x.0.does && x.1) ∷ []
 
 abbrev pub new_life : ℕ → ℕ → Option ℤ → LifeParts
 new_life t q p = record { in_state = Open; at_time = t; with_quantity = q; with_price = p }

@@ -8,7 +8,7 @@ use Rattle.std.proofs.lemmas.Bool.Decides.{nat_tests}
 use Rattle.line.specs.declared.faults.ReadFault.{ReadFault}
 use Rattle.line.specs.declared.faults.ReadFault.TheVariants.{Form}
 use Rattle.line.specs.declared.report.Report.{Report}
-use Rattle.line.specs.Faults.{told}
+use Rattle.line.specs.Faults.{read_refusal}
 use Rattle.line.specs.Lines.{Reported}
 use Rattle.line.specs.Reads.{bytes_of, signed_of, as_word, as_price}
 use Rattle.line.specs.Reports.{said_in}
@@ -18,7 +18,7 @@ pub stops : (k : ℕ) {at : ℕ} {goal : Result Reported Refusal} (r : Result Re
     → (x ≡ Form (suc k) at) × (goal ≡ Err (Refused (10 + suc k) (suc k) at)) → said_in r ≡ goal
 stops k r x b s =
     let q = err_from_is_err_and r b in
-    ap said_in q.1 ∙ ap (λ y. Err (told y)) (q.2 ∙ s.0) ∙ sym s.1
+    ap said_in q.1 ∙ ap (λ y. Err (read_refusal y)) (q.2 ∙ s.0) ∙ sym s.1
 
 -- what is handed out says the value of the field
 pub read_value : {V : Type 0} (any : V) {x y : V} {o : Option V} → o ≡ Some y → x ≡ y → x ≡ value any o

@@ -20,5 +20,5 @@ fault_offset Fields = 0
 fault_offset (Form f at) = at
 
 -- the refusal that a fault of reading tells
-abbrev pub told : ReadFault → Refusal
-told e = Refused (fault_number e) (fault_field e) (fault_offset e)
+abbrev pub read_refusal : ReadFault → Refusal
+read_refusal e = Refused (fault_number e) (fault_field e) (fault_offset e)

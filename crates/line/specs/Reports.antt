@@ -4,7 +4,7 @@ use Rattle.text.specs.Listings.{listing}
 use Rattle.text.specs.Rows.{Refusal}
 use Rattle.line.specs.declared.faults.ReadFault.{ReadFault}
 use Rattle.line.specs.declared.report.Report.{Report}
-use Rattle.line.specs.Faults.{told}
+use Rattle.line.specs.Faults.{read_refusal}
 use Rattle.line.specs.Lines.{Reported}
 
 abbrev pub said : Report → Reported
@@ -24,4 +24,4 @@ said r = record {
 
 abbrev pub said_in : Result Report ReadFault → Result Reported Refusal
 said_in (Ok r) = Ok (said r)
-said_in (Err e) = Err (told e)
+said_in (Err e) = Err (read_refusal e)

@@ -8,7 +8,7 @@ ghost use Rattle.measure.specs.Positions.{Within};
 ghost use Rattle.measure.specs.Totals.{total_in};
 ghost use Rattle.register.specs.Faults.{refused_by};
 ghost use Rattle.register.specs.Held.{Kept};
-ghost use Rattle.register.specs.Judged.{refusal, lives_after};
+ghost use Rattle.register.specs.Judged.{act_refusal, lives_after};
 
 use crate::faults::ActFault;
 use crate::register::Register;
@@ -57,8 +57,8 @@ impl<'s, S: Store, M: Measure> Register<'s, S, M> {
 
     // Does an action to the life of a key, as `told` by its line: time, quantity and price. A refused action changes no life.
     pub fn judge(&mut self, key: &Key, action: Action, told: &Life) -> Result<(), ActFault>
-        ensures answers { refused_by result ≡ refusal self.old.room (key_parts key.now) action (life_parts told.now) self.old.lives }
-        ensures holds { Same self.new.lives (lives_after (refusal self.old.room (key_parts key.now) action (life_parts told.now) self.old.lives) (key_parts key.now) action (life_parts told.now) self.old.lives) }
+        ensures answers { refused_by result ≡ act_refusal self.old.room (key_parts key.now) action (life_parts told.now) self.old.lives }
+        ensures holds { Same self.new.lives (lives_after (act_refusal self.old.room (key_parts key.now) action (life_parts told.now) self.old.lives) (key_parts key.now) action (life_parts told.now) self.old.lives) }
         ensures keeps { self.new.room ≡ self.old.room }
         ensures sums { self.new.total ≡ total_in M.Measure self.new.lives }
     {

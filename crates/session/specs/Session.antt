@@ -2,7 +2,7 @@
 use Rattle.std.specs.Prelude.{ℕ, cond, List, [], ◌∷◌, ◌++◌, length, is_some, Some, None, Option}
 use Rattle.text.specs.Bytes.{Bytes, then, pieces}
 use Rattle.text.specs.Rows.{first_fit}
-use Rattle.commands.specs.Commands.{Asked, command_rows, asked_by}
+use Rattle.commands.specs.Commands.{CommandParts, command_rows, command_form}
 use Rattle.commands.specs.Commands as command
 use Rattle.text.specs.declared.words.Kind.{Kind}
 use Rattle.text.specs.declared.words.Kind.TheVariants.{Order}
@@ -43,7 +43,7 @@ ending (OnlyNamed n) = Some (Withdraw n)
 ending (Identified n) = Some (Close n)
 
 -- what is asked of positions and of the check word is no call
-abbrev pub call_by : InHand → Asked → Option Call
+abbrev pub call_by : InHand → CommandParts → Option Call
 call_by h (command.AddEntity code) = Some (AddEntity code)
 call_by h (command.AddContract text) = Some (AddContract text)
 call_by h (command.NameFile name) = naming h name
@@ -54,14 +54,14 @@ call_by h command.Positions = None
 call_by h command.CheckWord = None
 
 -- a line is a command where no row refuses it
-abbrev pub command_in : Bytes → Option Asked
-command_in line = cond (is_some (first_fit command_rows line)) None (asked_by line)
+abbrev pub command_in : Bytes → Option CommandParts
+command_in line = cond (is_some (first_fit command_rows line)) None (command_form line)
 
 abbrev pub call_of_line : InHand → Bytes → Option Call
 call_of_line h line = then (command_in line) (call_by h)
 
 -- what a command tells of: an order or a trade; commands without a report line have the same codes for both
-abbrev pub kind_asked : Asked → Kind
+abbrev pub kind_asked : CommandParts → Kind
 kind_asked (command.AddEntity code) = Order
 kind_asked (command.AddContract text) = Order
 kind_asked (command.NameFile name) = Order
@@ -71,12 +71,12 @@ kind_asked command.EndFile = Order
 kind_asked command.Positions = Order
 kind_asked command.CheckWord = Order
 
-abbrev pub kind_of_command : Option Asked → Kind
+abbrev pub kind_of_command : Option CommandParts → Kind
 kind_of_command None = Order
 kind_of_command (Some command) = kind_asked command
 
 abbrev pub kind_of_line : Bytes → Kind
-kind_of_line line = kind_of_command (asked_by line)
+kind_of_line line = kind_of_command (command_form line)
 
 -- ---- What follows a call, or none
 
@@ -115,7 +115,7 @@ pub data Said : Type 0 where
   Answered : Answer → Said
   AskedPositions AskedCheckWord : Said
 
-abbrev pub said_of : Book → InHand → Asked → Said
+abbrev pub said_of : Book → InHand → CommandParts → Said
 said_of b h (command.AddEntity code) = Answered (answer_to b (call_by h (command.AddEntity code)))
 said_of b h (command.AddContract text) = Answered (answer_to b (call_by h (command.AddContract text)))
 said_of b h (command.NameFile name) = Answered (answer_to b (call_by h (command.NameFile name)))
@@ -126,14 +126,14 @@ said_of b h command.Positions = AskedPositions
 said_of b h command.CheckWord = AskedCheckWord
 
 -- a line is refused by the first row that fits it, and else as its command is answered
-abbrev pub said_or : Book → InHand → Option Asked → Option (ℕ × ℕ) → Said
+abbrev pub said_or : Book → InHand → Option CommandParts → Option (ℕ × ℕ) → Said
 said_or b h None None = Answered (Refused 66 0 0)
 said_or b h (Some command) None = said_of b h command
 said_or b h None (Some r) = Answered (Refused r.0 r.1 0)
 said_or b h (Some command) (Some r) = Answered (Refused r.0 r.1 0)
 
 abbrev pub said_of_line : Book → InHand → Bytes → Said
-said_of_line b h line = said_or b h (asked_by line) (first_fit command_rows line)
+said_of_line b h line = said_or b h (command_form line) (first_fit command_rows line)
 
 abbrev pub listed : Option Call → List Call
 listed None = []

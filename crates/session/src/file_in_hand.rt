@@ -1,6 +1,6 @@
 // The file in hand, by its token, and what a command does with it.
 ghost use Rattle.std.specs.Prelude.{◌≡◌, Some, IfOk, OnErr, option_map};
-ghost use Rattle.commands.specs.Commands.{asked};
+ghost use Rattle.commands.specs.Commands.{command_parts};
 ghost use Rattle.book.specs.Book.{NameFile as NameCall, Identify as IdentifyCall};
 ghost use Rattle.text.specs.declared.words.Kind.{Kind};
 ghost use Rattle.calls.specs.Codes.{code_in, code_due};
@@ -81,10 +81,10 @@ impl FileInHand {
         checker: &mut Checker<S, M>,
         command: Command,
     ) -> (FileInHand, Result<Told, AllocError>)
-        ensures follows { IfOk result.1 (λ res. Does M.Measure checker.old (in_hand self) (call_by (in_hand self) (asked command.entry)) (told res) (in_hand result.0) checker.new) }
-        ensures code { IfOk result.1 (λ res. code_in refusal_code res ≡ code_due (kind_asked (asked command.entry)) (told res)) }
+        ensures follows { IfOk result.1 (λ res. Does M.Measure checker.old (in_hand self) (call_by (in_hand self) (command_parts command.entry)) (told res) (in_hand result.0) checker.new) }
+        ensures code { IfOk result.1 (λ res. code_in refusal_code res ≡ code_due (kind_asked (command_parts command.entry)) (told res)) }
         ensures memory { OnErr result.1 ((in_hand result.0 ≡ in_hand self) × Stays M.Measure checker.old checker.new) }
-        ensures wanting { OnErr result.1 (MayWant (call_by (in_hand self) (asked command.entry))) }
+        ensures wanting { OnErr result.1 (MayWant (call_by (in_hand self) (command_parts command.entry))) }
     {
         let (file, told) = match (command, self) {
             (Command::NameFile(name), FileInHand::None) => return name_file(checker, name),

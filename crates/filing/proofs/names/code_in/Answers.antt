@@ -1,6 +1,6 @@
 -- Each part that `next` gives is one more piece of the name.
 use Rattle.std.proofs.Common.{[], ◌∷◌, refl, ap, ◌∙◌, rules}
-use Rattle.filing.specs.Codes.{code_in}
+use Rattle.filing.specs.Codes.{code_part}
 use Rattle.filing.proofs.NameParts.{Cut, cut_none, cut_next, cut_all, cut_more, ended, too_few, unlike, code_said}
 use Rattle.filing.proofs.names.code_in.Goals as goal
 use Rattle.filing.proofs.names.code_in.Goals.{In_ok-date, In_ok-schema, In_ok-version, In_ok-code, In_ok-last}
@@ -29,22 +29,22 @@ past_last c = cut_next _ (past_code (goal.at.In_ok-last c).In_ok-code) c.in_ok-l
 
 pub returns-in_err-schema : goal.returns-in_err-schema
 returns-in_err-schema c =
-    ap code_in c.from_residual-in_err-schema.ensures
+    ap code_part c.from_residual-in_err-schema.ensures
     ∙ too_few c.args.name.now _ (cut_all (past_date (goal.at.returns-in_err-schema c).In_ok-date) c.in_err-schema.ensures.steps.0) refl
 
 pub returns-in_err-version : goal.returns-in_err-version
 returns-in_err-version c =
-    ap code_in c.from_residual-in_err-version.ensures
+    ap code_part c.from_residual-in_err-version.ensures
     ∙ too_few c.args.name.now _ (cut_all (past_schema (goal.at.returns-in_err-version c).In_ok-schema) c.in_err-version.ensures.steps.0) refl
 
 pub returns-in_err-code : goal.returns-in_err-code
 returns-in_err-code c =
-    ap code_in c.from_residual-in_err-code.ensures
+    ap code_part c.from_residual-in_err-code.ensures
     ∙ too_few c.args.name.now _ (cut_all (past_version (goal.at.returns-in_err-code c).In_ok-version) c.in_err-code.ensures.steps.0) refl
 
 pub returns-in_err-last : goal.returns-in_err-last
 returns-in_err-last c =
-    ap code_in c.from_residual-in_err-last.ensures
+    ap code_part c.from_residual-in_err-last.ensures
     ∙ too_few c.args.name.now _ (cut_all (past_code (goal.at.returns-in_err-last c).In_ok-code) c.in_err-last.ensures.steps.0) refl
 
 pub returns-then-is_some : goal.returns-then-is_some

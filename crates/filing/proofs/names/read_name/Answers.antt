@@ -3,11 +3,11 @@ use Rattle.std.specs.Option.{ok_or}
 use Rattle.text.specs.Bytes.{Bytes}
 use Rattle.filing.specs.declared.names.EntityCode.{EntityCode}
 use Rattle.filing.specs.declared.names.NameFault.{NameFault}
-use Rattle.filing.specs.Codes.{code_in, code_there}
+use Rattle.filing.specs.Codes.{code_part, code_there}
 use Rattle.filing.proofs.NameParts.{answered}
 use Rattle.filing.proofs.names.read_name.Goals as goal
 
-part : (name : Bytes) (o : Option EntityCode) (e : NameFault) → code_in o ≡ code_there name → IfOk (ok_or o e) (λ code. code.text.now ≡ take (length code.text.now) (drop code.at name))
+part : (name : Bytes) (o : Option EntityCode) (e : NameFault) → code_part o ≡ code_there name → IfOk (ok_or o e) (λ code. code.text.now ≡ take (length code.text.now) (drop code.at name))
 part name None e told = tt
 part name (Some code) e told = (answered name code.text.now code.at told).1
 
