@@ -9,6 +9,7 @@ use Rattle.filing.specs.Entities.{entity_limit}
 use Rattle.filing.specs.Files.{File, judged_limit}
 use Rattle.life.specs.declared.life.State.{State}
 use Rattle.life.specs.declared.life.State.TheVariants.{Open, Cancelled}
+use Rattle.life.specs.Limits.{quantity_limit}
 use Rattle.life.specs.Parts.{KeyParts, LifeParts}
 use Rattle.life.specs.Keys.{same_key}
 use Rattle.life.specs.Lives.{Pair, look, Unique}
@@ -176,7 +177,7 @@ pub record TidyFile (f : File) : Type 0 where
 -- a contract number of at most 63, and a quantity of at most 10,000,000 units
 pub record TidyLife (p : Pair) : Type 0 where
   pub numbered_within : p.0.of_contract ≤ contract_limit
-  pub quantity_within : p.1.with_quantity ≤ 1_000_000_000_000
+  pub quantity_within : p.1.with_quantity ≤ quantity_limit
 
 -- the capacity is that of the start; no key twice, no more lives than the capacity, each life and each file tidy, no more entities and contracts than
 -- may be listed

@@ -8,6 +8,7 @@ use Rattle.life.specs.declared.acts.Outcome.TheVariants.{Stays, Ends}
 use Rattle.life.specs.declared.fault.LifeFault.{LifeFault}
 use Rattle.life.specs.declared.life.Life.{Life}
 use Rattle.life.specs.Faults.{life_number, life_field}
+use Rattle.life.specs.Limits.{quantity_limit}
 use Rattle.life.specs.Parts.{LifeParts, life_parts}
 use Rattle.life.specs.Rules.{by_action, life_rows, new_life, modified, cancelled}
 
@@ -17,7 +18,7 @@ life_in (Some l) = Some (life_parts l)
 
 -- an open life of at most 10,000,000 units
 abbrev pub life_from : ℕ → ℕ → Option ℤ → Option LifeParts
-life_from t q p = provided (nat_le q 1_000_000_000_000) (new_life t q p)
+life_from t q p = provided (nat_le q quantity_limit) (new_life t q p)
 
 -- the number and field of the first rule against an action, told by a line, on the life of its key, if one stands
 abbrev pub fault_in : Action → Life → Option LifeParts → Option (ℕ × ℕ)

@@ -1,5 +1,6 @@
 // What is held of a life.
 ghost use Rattle.std.specs.Prelude.{◌≤◌};
+ghost use Rattle.life.specs.Limits.{quantity_limit};
 
 // A life is open until an accepted Cancel.
 #[derive(Clone, Copy, PartialEq, Eq, Debug)]
@@ -15,5 +16,5 @@ pub struct Life {
     pub time: u32,
     pub quantity: u64,
     pub price: Option<i64>,
-    ghost bounded: { quantity ≤ 1000000000000 },
+    ghost bounded: { quantity ≤ quantity_limit },
 }

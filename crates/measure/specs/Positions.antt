@@ -4,6 +4,7 @@ use Rattle.text.specs.declared.words.Kind.{Kind}
 use Rattle.text.specs.declared.words.Kind.TheVariants.{Order, Trade}
 use Rattle.text.specs.declared.words.Side.{Side}
 use Rattle.text.specs.declared.words.Side.TheVariants.{Buy, Sell}
+use Rattle.life.specs.Limits.{quantity_limit}
 use Rattle.life.specs.Parts.{KeyParts, LifeParts}
 use Rattle.life.specs.Lives.{Pair, Lives}
 use Rattle.measure.specs.Totals.{total_of}
@@ -25,9 +26,9 @@ true_position n ps = total_of (pos 0) ◌+ℤ◌ (brought n) ps
 -- a pair as keys and lives have it: a listed contract, and a quantity of at most 10^12
 pub record Within (p : Pair) : Type 0 where
   pub listed : p.0.of_contract < 64
-  pub bounded : p.1.with_quantity ≤ 1000000000000
+  pub bounded : p.1.with_quantity ≤ quantity_limit
 
 -- whether all pairs are
 abbrev pub all_within : Lives → Bool
 all_within [] = true
-all_within (p ∷ ps) = (nat_lt p.0.of_contract 64 && nat_le p.1.with_quantity 1000000000000) && all_within ps
+all_within (p ∷ ps) = (nat_lt p.0.of_contract 64 && nat_le p.1.with_quantity quantity_limit) && all_within ps
