@@ -10,6 +10,10 @@ use Rattle.life.specs.declared.key.Key.{Key}
 use Rattle.life.specs.declared.life.Life.{Life}
 use Rattle.chained.specs.declared.slot.Slot.{Slot}
 
+-- the longest table
+abbrev pub slot_limit : ℕ
+slot_limit = 65536
+
 -- what is read past the end
 abbrev pub none : Slot
 none = record { head = 0; next = 0; key = no_key; life = no_life }
@@ -45,7 +49,7 @@ pub record Linked (K : ℕ → ℕ) (s : List Slot) (c : ℕ) : Type 0 where
 -- the slots 1 to c are in use, each in the chain of its key, and no key stands twice
 pub record Sound (s : List Slot) (c : ℕ) : Type 0 where
   pub fits : c ≤ length s - 1
-  pub small : length s ≤ 65536
+  pub small : length s ≤ slot_limit
   pub linked : Linked (chain_at s) s c
   pub apart : (i j : ℕ) → 0 < i → i < j → j ≤ c → (at s i).key ≢ (at s j).key
 
@@ -62,7 +66,7 @@ pub record HasChain (s : List Slot) (c b : ℕ) : Type 0 where
 
 -- the slot i is one of the slots 1 to c, which are in use, and the table has not too many slots
 pub record InUse (s : List Slot) (c i : ℕ) : Type 0 where
-  pub small : length s ≤ 65536
+  pub small : length s ≤ slot_limit
   pub some : 0 < i
   pub within : i ≤ c
 
@@ -119,16 +123,16 @@ pub record Kept (s t : List Slot) : Type 0 where
 
 -- the lengths that are allowed
 abbrev pub allowed_length : ℕ → Bool
-allowed_length n = between 1 65536 n
+allowed_length n = between 1 slot_limit n
 
 -- how many slots can be in use: all but the slot 0, or none where the length is not allowed
 abbrev pub room_of : List Slot → ℕ
-room_of s = cond (nat_le (length s) 65536) (length s - 1) 0
+room_of s = cond (nat_le (length s) slot_limit) (length s - 1) 0
 
 -- a table whose length is not allowed has no slot in use, and its links may be anything
 pub record Whole (s : List Slot) (c : ℕ) : Type 0 where
-  pub allowed : length s ≤ 65536 → Sound s c
-  pub large : 65536 < length s → c ≡ 0
+  pub allowed : length s ≤ slot_limit → Sound s c
+  pub large : slot_limit < length s → c ≡ 0
 
 -- the pairs of the slots that are not in use, 0 and those past d, are as they were
 pub record Spare (s t : List Slot) (d : ℕ) : Type 0 where
@@ -153,8 +157,8 @@ pub record Wiped (s t : List Slot) : Type 0 where
 -- a table whose length is not allowed is not written
 pub record Emptied (s t : List Slot) : Type 0 where
   pub size : length t ≡ length s
-  pub small : length s ≤ 65536 → Wiped s t
-  pub large : 65536 < length s → t ≡ s
+  pub small : length s ≤ slot_limit → Wiped s t
+  pub large : slot_limit < length s → t ≡ s
 
 -- what holds of a store's table: it is sound, no key stands twice, and no more are held than can be; what stands between the bars holds, and nothing
 -- more is kept of it

@@ -1,7 +1,7 @@
 // A table of slots: which slot has a key, and how a pair comes into its chain and out of it.
 ghost use Rattle.std.specs.Prelude.{◌≡◌, ℕ, ◌<◌, ◌≤◌, length, None, Ok, nat_le, unwrap_or};
 ghost use Rattle.life.specs.Pairs.{look};
-ghost use Rattle.chained.specs.Table.{at, chain_of, re, Linked, HasChain, InUse, Sound, Spot, Place, Rewired, Paired, Kept, Emptied, Held};
+ghost use Rattle.chained.specs.Table.{at, slot_limit, chain_of, re, Linked, HasChain, InUse, Sound, Spot, Place, Rewired, Paired, Kept, Emptied, Held};
 
 use crate::slot::Slot;
 use life::{Key, Life, NoRoom};
@@ -26,7 +26,7 @@ fn chain(key: &Key, n: usize) -> usize
 fn set_link(slots: &mut [Slot], b: usize, p: Option<usize>, v: usize)
     requires chain { b < length slots.old }
     requires place { Spot p (length slots.old) }
-    requires small { v ≤ 65536 }
+    requires small { v ≤ slot_limit }
     ensures { Rewired slots.old slots.new b (unwrap_or p 0) v }
 {
     match p {
@@ -66,7 +66,7 @@ fn place(slots: &[Slot], count: usize, b: usize, i: usize) -> Option<usize>
 fn unlink(slots: &mut [Slot], count: usize, b: usize, i: usize)
     requires chain { HasChain slots.old count b }
     requires slot { InUse slots.old count i }
-    requires next { (at slots.old i).next ≤ 65536 }
+    requires next { (at slots.old i).next ≤ slot_limit }
     ensures kept { Kept slots.old slots.new }
     ensures linked { (K : ℕ → ℕ) → Linked K slots.old count → K i ≡ b → Linked (re K i 0) slots.new count }
 {

@@ -13,13 +13,17 @@ use Rattle.ordered.specs.declared.entry.Entry.{Entry}
 abbrev pub at : List Entry → ℕ → Entry
 at s i = slice_index_or s i (record { key = no_key; life = no_life })
 
+-- the longest table
+abbrev pub entry_limit : ℕ
+entry_limit = 65535
+
 -- the lengths that are allowed
-abbrev pub allowed : ℕ → Bool
-allowed n = between 1 65535 n
+abbrev pub allowed_length : ℕ → Bool
+allowed_length n = between 1 entry_limit n
 
 -- how many entries a table can hold: all, or none where its length is not allowed
 abbrev pub room_of : List Entry → ℕ
-room_of s = cond (nat_le (length s) 65535) (length s) 0
+room_of s = cond (nat_le (length s) entry_limit) (length s) 0
 
 -- the pairs of the first c entries, the last one first
 abbrev pub pairs_of : List Entry → ℕ → List (Key × Life)

@@ -1,7 +1,7 @@
 // A store over a lent table, in the order of keys.
 ghost use Rattle.std.specs.Prelude.{◌≡◌, [], if◌then◌else◌, Some, None};
 ghost use Rattle.life.specs.Faults.{length_refused as refused};
-ghost use Rattle.ordered.specs.Table.{allowed};
+ghost use Rattle.ordered.specs.Table.{allowed_length};
 ghost use Rattle.ordered.specs.Tables.{pairs_in, room_in, Puts, Drops};
 
 use crate::entry::Entry;
@@ -20,7 +20,7 @@ pub struct Ordered<'t> {
 impl<'t> Ordered<'t> {
     // Whether a table of `n` entries is allowed: 1 to 65,535.
     pub fn check(n: usize) -> Result<(), TableFault>
-        ensures { refused result ≡ (if allowed n then None else Some 72) }
+        ensures { refused result ≡ (if allowed_length n then None else Some 72) }
     {
         check_length::<LONGEST>(n)
     }
