@@ -1,9 +1,11 @@
 -- What a checker holds, as a book; and the law over every history of calls that led to it.
 use Rattle.measure.specs.declared.measure.Measure.{Ghosts}
-use Rattle.std.specs.Prelude.{◌≡◌, ℕ, List, [], ◌∷◌, ◌++◌, None}
+use Rattle.std.specs.Prelude.{◌≡◌, ℕ, false, List, [], ◌∷◌, ◌++◌, None, slice_set}
 use Rattle.text.specs.Bytes.{Bytes}
 use Rattle.text.specs.Rows.{first_fit}
 use Rattle.filing.specs.Names.{naming_rows}
+use Rattle.files.specs.Files.{counted, file_of}
+use Rattle.files.specs.Held.{with_files}
 use Rattle.book.specs.Book.{Book, Call, NameFile, Answer, answer}
 use Rattle.calls.specs.declared.checker.Checker.{Checker}
 use Rattle.calls.specs.Follows.{book_after, Follows}
@@ -18,6 +20,10 @@ book_in c = record {
   files = c.files.files;
   lives = c.register.lives;
 }
+
+-- the checker with one line more judged and refused in the file n, unless that takes none: all else of it is the same
+abbrev pub one_refused_in : {S M : Type 0} → Checker S M → ℕ → Checker S M
+one_refused_in c n = record c { files = with_files (slice_set c.files.files n (counted false (file_of c.files.files n))) c.files }
 
 -- the call names a file, and no row of naming refuses the name: the only call that may want memory
 abbrev pub NamesFile : Call → Type 0

@@ -1,9 +1,9 @@
 // Judging lines.
-ghost use Rattle.std.specs.Prelude.{◌≡◌};
+ghost use Rattle.std.specs.Prelude.{◌≡◌, OnErr};
 ghost use Rattle.book.specs.Book.{Judge as JudgeCall};
 ghost use Rattle.calls.specs.Codes.{code_in, code_due, kind_of};
 ghost use Rattle.calls.specs.Faults.{judge_code};
-ghost use Rattle.calls.specs.Held.{book_in, Continues};
+ghost use Rattle.calls.specs.Held.{book_in, Continues, one_refused_in};
 ghost use Rattle.calls.specs.Said.{judge_answer};
 ghost use Rattle.calls.specs.Steps.{Step, Tried};
 
@@ -16,9 +16,11 @@ use line::field_offset;
 use measure::Measure;
 
 impl<'s, S: Store, M: Measure> Checker<'s, S, M> {
-    // Judges a line in an identified file, where it counts.
+    // Judges a line in an identified file, where it counts. Refused, the checker is what it was, but that one line more is refused in its file if
+    // that took it.
     pub fn judge(&mut self, file: &IdentifiedFile, line: &[u8]) -> Result<(), JudgeFault>
         ensures follows { Continues M.Measure self.old (JudgeCall file.now.number line.now) (judge_answer result) self.new }
+        ensures refused { OnErr result (self.new ≡ one_refused_in self.old file.now.number) }
         ensures code { code_in judge_code result ≡ code_due (kind_of line.now) (judge_answer result) }
     {
         self.judge_at(file.number(), line)
@@ -27,6 +29,7 @@ impl<'s, S: Store, M: Measure> Checker<'s, S, M> {
     // Judges a line in the file of a number.
     pub(crate) fn judge_at(&mut self, number: usize, line: &[u8]) -> Result<(), JudgeFault>
         ensures step { Step M.Measure (book_in self.old) self.old.register.total (JudgeCall number line.now) (judge_answer result) (book_in self.new) self.new.register.total }
+        ensures refused { OnErr result (self.new ≡ one_refused_in self.old number) }
         ensures code { code_in judge_code result ≡ code_due (kind_of line.now) (judge_answer result) }
     {
         let answer = self.try_line(number, line);
@@ -37,6 +40,7 @@ impl<'s, S: Store, M: Measure> Checker<'s, S, M> {
     // What becomes of the lives, before the line is counted.
     fn try_line(&mut self, number: usize, line: &[u8]) -> Result<(), JudgeFault>
         ensures tried { Tried M.Measure (book_in self.old) self.old.register.total number line.now (judge_answer result) (book_in self.new) self.new.register.total }
+        ensures refused { OnErr result (self.new ≡ self.old) }
         ensures code { code_in judge_code result ≡ code_due (kind_of line.now) (judge_answer result) }
     {
         self.files.takes(number)?;

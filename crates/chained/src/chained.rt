@@ -1,6 +1,7 @@
 // A store over a lent table, by chains of slots.
-ghost use Rattle.std.specs.Prelude.{◌≡◌, [], if◌then◌else◌, Some, None};
+ghost use Rattle.std.specs.Prelude.{◌≡◌, [], if◌then◌else◌, Some, None, OnErr};
 ghost use Rattle.life.specs.Faults.{length_refused as refused};
+ghost use Rattle.life.specs.Pairs.{look};
 ghost use Rattle.chained.specs.Table.{allowed_length as allowed, Emptied};
 ghost use Rattle.chained.specs.Tables.{pairs_in, room_in, Puts, Drops};
 
@@ -36,7 +37,8 @@ impl<'t> Chained<'t> {
     }
 }
 
-// A method's own clauses stand in place of the trait's and have to give them: `Puts` and `Drops` do, and `empty` says `holds` again.
+// A method's own clauses stand in place of the trait's and have to give them: `Puts` and `Drops` do, and `refused`,
+// `absent` and `holds` are said again.
 impl<'t> Store for Chained<'t> {
     ghost pairs = { λ s. pairs_in s.table };
 
@@ -56,12 +58,14 @@ impl<'t> Store for Chained<'t> {
 
     fn put(&mut self, key: &Key, life: Life) -> Result<(), NoRoom>
         ensures table { Puts self.old.table self.new.table key.now life result }
+        ensures refused { OnErr result (self.new ≡ self.old) }
     {
         self.table.put(key, life)
     }
 
     fn remove(&mut self, key: &Key)
         ensures table { Drops self.old.table self.new.table key.now }
+        ensures absent { look key.now (pairs_in self.old.table) ≡ None → self.new ≡ self.old }
     {
         self.table.remove(key)
     }

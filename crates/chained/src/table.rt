@@ -1,5 +1,5 @@
 // A table of slots: which slot has a key, and how a pair comes into its chain and out of it.
-ghost use Rattle.std.specs.Prelude.{◌≡◌, ℕ, ◌<◌, ◌≤◌, length, None, Ok, nat_le, unwrap_or};
+ghost use Rattle.std.specs.Prelude.{◌≡◌, ℕ, ◌<◌, ◌≤◌, length, None, Ok, OnErr, nat_le, unwrap_or};
 ghost use Rattle.life.specs.Pairs.{look};
 ghost use Rattle.chained.specs.Table.{at, slot_limit, chain_of, re, Linked, HasChain, InUse, Sound, Spot, Place, Rewired, Paired, Kept, Emptied, Held};
 
@@ -181,7 +181,8 @@ impl<'t> Table<'t> {
 
     // Puts the life at the key. Refused where the key is new and the table is full.
     pub(crate) fn put(&mut self, key: &Key, life: Life) -> Result<(), NoRoom>
-        ensures { Puts self.old self.new key.now life result }
+        ensures puts { Puts self.old self.new key.now life result }
+        ensures refused { OnErr result (self.new ≡ self.old) }
     {
         if let Some(i) = self.place_of(key) {
             set_pair(self.slots, i, *key, life);
@@ -213,7 +214,8 @@ impl<'t> Table<'t> {
 
     // Takes away the pair at the key, if there is one.
     pub(crate) fn remove(&mut self, key: &Key)
-        ensures { Drops self.old self.new key.now }
+        ensures drops { Drops self.old self.new key.now }
+        ensures absent { look key.now (pairs_in self.old) ≡ None → self.new ≡ self.old }
     {
         if let Some(i) = self.place_of(key) {
             self.take_out(i);

@@ -1,5 +1,5 @@
 // What a store is: pairs of a key and a life, no key twice, up to a fixed number of them.
-ghost use Rattle.std.specs.Prelude.{◌≡◌, ℕ, ◌≤◌, List, [], length, is_ok};
+ghost use Rattle.std.specs.Prelude.{◌≡◌, ℕ, ◌≤◌, List, [], length, is_ok, None, OnErr};
 ghost use Rattle.life.specs.declared.key.Key.{Key};
 ghost use Rattle.life.specs.declared.life.Life.{Life};
 ghost use Rattle.life.specs.Pairs.{look, erase, added, admits, Unique, Same};
@@ -32,15 +32,17 @@ pub trait Store {
     fn find(&self, key: &Key) -> Option<Life>
         ensures { result ≡ look key.now (pairs self.now) };
 
-    // Puts the life at the key. Refused, with nothing altered, exactly where the key is new and the room is used up.
+    // Puts the life at the key. Refused, and then the store is what it was, exactly where the key is new and the room is used up.
     fn put(&mut self, key: &Key, life: Life) -> Result<(), NoRoom>
         ensures fits { is_ok result ≡ admits (room self.old) key.now (pairs self.old) }
         ensures holds { Same (pairs self.new) (added (is_ok result) key.now life (pairs self.old)) }
+        ensures refused { OnErr result (self.new ≡ self.old) }
         ensures keeps { room self.new ≡ room self.old };
 
-    // Takes away the pair at the key, if one is held.
+    // Takes away the pair at the key. Where none is held the store is what it was.
     fn remove(&mut self, key: &Key)
         ensures holds { Same (pairs self.new) (erase key.now (pairs self.old)) }
+        ensures absent { look key.now (pairs self.old) ≡ None → self.new ≡ self.old }
         ensures keeps { room self.new ≡ room self.old };
 
     // Takes every pair away.

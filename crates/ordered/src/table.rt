@@ -1,5 +1,5 @@
 // A table of entries in rising order of their keys.
-ghost use Rattle.std.specs.Prelude.{◌≡◌, ◌<◌, Ok, Err, nat_le};
+ghost use Rattle.std.specs.Prelude.{◌≡◌, ◌<◌, None, Ok, Err, OnErr, nat_le};
 ghost use Rattle.life.specs.Pairs.{look};
 ghost use Rattle.ordered.specs.Table.{at, Held};
 
@@ -76,7 +76,8 @@ impl<'t> Table<'t> {
 
     // Puts the life at the key. Refused where the key is new and the table is full.
     pub(crate) fn put(&mut self, key: &Key, life: Life) -> Result<(), NoRoom>
-        ensures { Puts self.old self.new key.now life result }
+        ensures puts { Puts self.old self.new key.now life result }
+        ensures refused { OnErr result (self.new ≡ self.old) }
     {
         match self.place_of(key) {
             Ok(i) => {
@@ -108,7 +109,8 @@ impl<'t> Table<'t> {
 
     // Takes away the entry of the key, if there is one.
     pub(crate) fn remove(&mut self, key: &Key)
-        ensures { Drops self.old self.new key.now }
+        ensures drops { Drops self.old self.new key.now }
+        ensures absent { look key.now (pairs_in self.old) ≡ None → self.new ≡ self.old }
     {
         if let Ok(i) = self.place_of(key) {
             self.delete(i);

@@ -1,5 +1,5 @@
 // Making a register, asking it, and doing an action to the life of a key.
-ghost use Rattle.std.specs.Prelude.{◌≡◌, [], ◌∷◌, length, if◌then◌else◌, Some, None, nat_le};
+ghost use Rattle.std.specs.Prelude.{◌≡◌, [], ◌∷◌, length, if◌then◌else◌, Some, None, OnErr, nat_le};
 ghost use Rattle.std.specs.List.{AllByRecursion};
 ghost use Rattle.life.specs.Acts.{life_in};
 ghost use Rattle.life.specs.Lives.{look, Same, altered, erase};
@@ -55,10 +55,11 @@ impl<'s, S: Store, M: Measure> Register<'s, S, M> {
         &self.total
     }
 
-    // Does an action to the life of a key, as `told` by its line: time, quantity and price. A refused action changes no life.
+    // Does an action to the life of a key, as `told` by its line: time, quantity and price. Refused, the register is what it was.
     pub fn judge(&mut self, key: &Key, action: Action, told: &Life) -> Result<(), ActFault>
         ensures answers { refused_by result ≡ act_refusal self.old.room (key_parts key.now) action (life_parts told.now) self.old.lives }
         ensures holds { Same self.new.lives (lives_after (act_refusal self.old.room (key_parts key.now) action (life_parts told.now) self.old.lives) (key_parts key.now) action (life_parts told.now) self.old.lives) }
+        ensures refused { OnErr result (self.new ≡ self.old) }
         ensures keeps { self.new.room ≡ self.old.room }
         ensures sums { self.new.total ≡ total_in M.Measure self.new.lives }
     {
@@ -79,6 +80,7 @@ impl<'s, S: Store, M: Measure> Register<'s, S, M> {
         requires { look (key_parts key.now) self.old.lives ≡ None }
         ensures answers { refused_by result ≡ (if nat_le self.old.room (length self.old.lives) then Some (47, 0) else None) }
         ensures holds { Same self.new.lives (if nat_le self.old.room (length self.old.lives) then self.old.lives else (key_parts key.now, life_parts life) ∷ self.old.lives) }
+        ensures refused { OnErr result (self.new ≡ self.old) }
         ensures kept { Kept M.Measure self.old self.new }
     {
         match self.store.put(key, life) {

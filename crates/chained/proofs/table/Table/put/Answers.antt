@@ -14,8 +14,8 @@ invariant_of-self c =
     let h = sound_at _ _ _ _ (opened c.args.self.now.held) c.in-Some.ensures in
     record { held = held (whole _ _ (held_sound _ _ _ _ _ _ h t o.within (o.held t) c.set_pair.ensures)) }
 
-pub returns-in-Some : goal.returns-in-Some
-returns-in-Some c =
+pub returns-in-Some-clause-puts : goal.returns-in-Some-clause-puts
+returns-in-Some-clause-puts c =
     let t = c.in-Some.ensures.0 in
     let o = c.in-Some.ensures.1 in
     let h = sound_at _ _ _ _ (opened c.args.self.now.held) c.in-Some.ensures in
@@ -34,8 +34,8 @@ returns-in-Some c =
       };
     }
 
-pub returns-then-is_full : goal.returns-then-is_full
-returns-then-is_full c =
+pub returns-then-is_full-clause-puts : goal.returns-then-is_full-clause-puts
+returns-then-is_full-clause-puts c =
     let s = c.args.self.now.slots.now in
     let n = c.args.self.now.count in
     let full : room_of s ≤ n = leb-true (room_of s) n (sym c.if-is_full.ensures) in
