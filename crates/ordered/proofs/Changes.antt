@@ -1,13 +1,15 @@
 -- What a replaced, an inserted and a deleted entry do to a table.
-use Rattle.std.proofs.Common.{◌≡◌, ℕ, ◌+◌, ◌-◌, ◌<◌, ◌≤◌, List, length, set, is_some, Some, Ok, Err, sym, refl, ap, ◌∙◌, ⊎_elim, true≢false, arith}
+use Rattle.std.proofs.Common.{◌≡◌, ℕ, suc, ◌+◌, ◌-◌, ◌<◌, ◌≤◌, List, length, set, is_some, Some, Ok, Err, sym, refl, ap, ◌∙◌, subst, ⊎_elim, true≢false, arith}
 use Rattle.std.proofs.lemmas.List.{length-set}
 use Rattle.std.proofs.lemmas.Bool.{cases_order, cases_eq, cases_lt, or_left, or_right, or_from, lt-ltb, le-ltb}
 use Rattle.life.specs.declared.key.Key.{Key}
 use Rattle.life.specs.declared.life.Life.{Life}
 use Rattle.life.specs.Keys.{Before}
+use Rattle.life.specs.Pairs.{erase}
 use Rattle.life.proofs.Lookups.{same_absent}
 use Rattle.ordered.specs.declared.entry.Entry.{Entry}
 use Rattle.ordered.specs.Table.{at, room_of, pairs_of, Sound, Sought, PutInto, TakenFrom}
+use Rattle.ordered.proofs.Placed.{pairs_inserted, pairs_replaced, pairs_kept, pairs_deleted}
 use Rattle.ordered.proofs.Rows.{held, at_same, at_other, room_within, room_to, fits_to, rise, before_apart, one_place, look_none, look_some, pairs_length, puts_in, takes_out}
 
 -- t is s with one entry more at i
@@ -57,6 +59,8 @@ module _ (s : List Entry) (c i : ℕ) (k : Key) (l : Life) (old : Sound s c) (lo
             (λ m x n. (m, x, at_other s i _ m (λ q. n (ap (λ y. (at s y).key) q ∙ here))))
             (λ n x f. (n, x, at_other s i _ n (λ q. f (key_of _ _ (at_same s i _ w n q)))))
             l (look_some t k c i new low (key_of _ _ self) ∙ ap (λ (y : Entry). Some y.life) self);
+        pairs = λ _. pairs_replaced s t i k l c low (λ m n. at_other s i _ m n) self here
+            (λ m x y. subst (λ q. Before q (at s m).key) here (old.rising i m x y));
         refused = λ f. absurd (true≢false f);
         rest = λ m h. at_other s i _ m (λ q. omega arith);
       }
@@ -116,6 +120,7 @@ module _ (s t : List Entry) (c i : ℕ) (k : Key) (l : Life) (old : Sound s c) (
     fits = sym (or_right _ _ (lt-ltb (length (pairs_of s c)) (room_of s) (omega (arith, pairs_length s c))));
     holds = puts_in s c t (c + 1) k old ins_sound go back l
         (look_some t k (c + 1) i ins_sound (omega (arith, place.0)) ins_key ∙ ap (λ (y : Entry). Some y.life) w.here);
+    pairs = λ _. let one : c + 1 ≡ suc c = omega arith in ap (pairs_of t) one ∙ pairs_inserted s t i k l c place.0 w.low w.here w.high place.1 place.2;
     refused = λ f. absurd (true≢false f);
     rest = λ m h. w.rest m (omega arith);
   }
@@ -128,6 +133,7 @@ refused s c i k l old full place = record {
   room = refl;
   fits = sym (or_from _ _ (ap is_some (look_none s k c (absent s c k i place))) (le-ltb (length (pairs_of s c)) (room_of s) (omega (arith, pairs_length s c))));
   holds = λ q. refl;
+  pairs = λ f. absurd (true≢false (sym f));
   refused = λ _. (refl, refl);
   rest = λ m _. refl;
 }
@@ -178,6 +184,11 @@ module _ (s t : List Entry) (c i : ℕ) (k : Key) (old : Sound s c) (low : i < c
     room = room_to s t w.size;
     holds = takes_out s c t (c - 1) k old del_sound del_go (λ n x _. let f = del_from n x in (f.0, f.1, f.2))
         (look_none t k (c - 1) (λ n x e. let f = del_from n x in f.3 (one_place s c old f.0 i f.1 low (sym (key_of _ _ f.2) ∙ e ∙ sym here))));
+    pairs =
+        let less : suc (c - 1) ≡ c = omega arith in
+        pairs_deleted s t i k (c - 1) (omega arith) w.low (λ m x y. w.high m x (omega arith)) here
+        (λ m x n e. n (one_place s c old m i (omega arith) low (e ∙ sym here)))
+        ∙ ap (λ n. erase k (pairs_of s n)) less;
     idle = λ z. absurd (omega (arith, old.fits));
     rest = λ m h. w.rest m (omega arith);
   }
@@ -188,6 +199,7 @@ untouched s c i k old place = record {
   held = held old;
   room = refl;
   holds = same_absent k (pairs_of s c) (look_none s k c (absent s c k i place));
+  pairs = pairs_kept s k c (absent s c k i place);
   idle = λ _. (refl, refl);
   rest = λ m _. refl;
 }
