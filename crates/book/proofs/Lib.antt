@@ -1,4 +1,5 @@
 pub mod Deeds
+pub mod FileCounts
 pub mod Runs
 pub mod Survivors
 pub mod Tables

@@ -36,13 +36,13 @@ none_fits (r ∷ rs) x e = let p = passed_by (r.fits x) _ _ e in (p.0, none_fits
 abbrev pub room_rows : List (Row Asked)
 room_rows = row 47 0 (λ x. is_new x.of_life.does && x.full) ∷ []
 
-abbrev from_life : List (Row Asked)
+abbrev pub from_life : List (Row Asked)
 from_life = looking_at (λ x. x.of_life) life_rows ++ room_rows
 
-abbrev from_list : List (Row Asked)
+abbrev pub from_list : List (Row Asked)
 from_list = looking_at (λ x. x.of_list) market_rows ++ from_life
 
-abbrev from_line : List (Row Asked)
+abbrev pub from_line : List (Row Asked)
 from_line = looking_at (λ x. x.line) line_rows ++ from_list
 
 -- a line is refused by its file's rows, else by its own, else by those of its contract, else by those of its life, else for want of room

@@ -1,9 +1,9 @@
 -- The book: what is held and answered, said by the capacity and the calls alone.
-use Rattle.std.specs.Prelude.{ℕ, Bool, cond, ◌&&◌, List, [], ◌∷◌, ◌++◌, length, ℤ, is_some, Some, None, Option, nat_le, slice_set}
+use Rattle.std.specs.Prelude.{ℕ, Bool, cond, List, [], ◌∷◌, ◌++◌, length, ℤ, is_some, Some, None, Option, nat_le, slice_set}
 use Rattle.text.specs.declared.words.Action.{Action}
 use Rattle.text.specs.declared.words.Action.TheVariants.{New, Modify, Error, Cancel}
 use Rattle.text.specs.Bytes.{Bytes, start, value}
-use Rattle.text.specs.Rows.{Row, row, first_fit, looking_at, fields}
+use Rattle.text.specs.Rows.{Row, first_fit, looking_at, fields}
 use Rattle.line.specs.Lines.{Reported, report, line_rows}
 use Rattle.contract.specs.ContractList.{Contract, offered, contract_rows, Told, told, market_rows, contract_number}
 use Rattle.filing.specs.Entities.{entity_rows}

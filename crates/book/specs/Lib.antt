@@ -1,5 +1,6 @@
 pub mod Book
 pub mod Cases
 pub mod Edges
+pub mod FileLaws
 pub mod Laws
 pub mod Totals

@@ -8,6 +8,7 @@ ghost use Rattle.filing.specs.Files.{judged_limit};
 ghost use Rattle.life.specs.Parts.{KeyParts};
 ghost use Rattle.book.specs.Cases.{cases, CasesStand};
 ghost use Rattle.book.specs.Edges.{edges, EdgesStand, EndingsStand};
+ghost use Rattle.book.specs.FileLaws.{FilesLaw};
 ghost use Rattle.book.specs.Laws.{a_line, Entry, struck, left_out, SurvivorsLaw, Deed, some_cancel, state_since, LifeLaw, TidyLaw};
 ghost use Rattle.measure.specs.Totals.{while_open};
 ghost use Rattle.book.specs.Totals.{TotalsLaw};
@@ -30,6 +31,10 @@ fn endings_stand()
 
 fn books_stay_tidy()
     ensures { TidyLaw }
+{}
+
+fn files_count()
+    ensures { FilesLaw }
 {}
 
 fn lives_stand()
@@ -67,12 +72,14 @@ pub fn worked_edges() -> u8
 }
 
 // The most lines judged in a file. In every run, each judged line counts once in its file, no key has two lives, and there are no more lives than
-// the capacity.
+// the capacity. The lines judged in a file are the Judge calls on it that were answered neither 66 nor 9; it ends at most once, and its receipt has its counts.
 pub fn most_lines() -> u32
     ensures limit { result ≡ judged_limit }
     ensures tidy { TidyLaw }
+    ensures files { FilesLaw }
 {
     books_stay_tidy();
+    files_count();
     1_000_000
 }
 
