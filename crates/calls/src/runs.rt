@@ -1,9 +1,9 @@
 // Whole lists of calls.
 ghost use Rattle.std.specs.Prelude.{ℕ, List, [], ◌∷◌, ◌++◌, IfOk, OnOk};
 ghost use Rattle.book.specs.Book.{Call as BookCall};
-ghost use Rattle.calls.specs.Follows.{Ran};
+ghost use Rattle.book.specs.FileLaws.{FilesCount};
 ghost use Rattle.calls.specs.Held.{Led};
-ghost use Rattle.calls.specs.Runs.{HasRun};
+ghost use Rattle.calls.specs.Runs.{HasRun, run_said, EachLifeTold};
 ghost use Rattle.calls.specs.Said.{call_said, calls_said};
 
 use crate::answer::{Given, Reply};
@@ -48,13 +48,16 @@ impl<'s, S: Store, M: Measure> CompletedRun<'s, S, M> {
 }
 
 impl<'s, S: Store, M: Measure> Checker<'s, S, M> {
-    // A new checker over the store, and its answers to a whole list of calls.
+    // A new checker over the store, and its answers to a whole list of calls. The lines judged in a file are the calls on it that were answered
+    // neither 66 nor 9; a file ends at most once, and its receipt has its counts. Each life is what the accepted lines of its key tell.
     pub fn run(
         heap: Global,
         store: &'s mut S,
         calls: &[Call],
     ) -> Result<CompletedRun<'s, S, M>, AllocError>
-        ensures { IfOk result (λ run. HasRun M.Measure (S.room store.old) (calls_said calls.now) run) }
+        ensures runs { IfOk result (λ run. HasRun M.Measure (S.room store.old) (calls_said calls.now) run) }
+        ensures files { IfOk result (λ run. FilesCount (run_said calls.now run) run.checker.files.files) }
+        ensures lives { IfOk result (λ run. EachLifeTold (S.room store.old) (calls_said calls.now) run.checker.register.lives) }
     {
         let mut run = CompletedRun::begin(heap, store, calls)?;
         for call in calls {

@@ -1,6 +1,7 @@
 use Rattle.std.proofs.Common.{take, subst}
 use Rattle.calls.specs.Runs.{HasRun}
 use Rattle.calls.specs.Said.{calls_said}
+use Rattle.calls.proofs.Laws.{files_counted, lives_told}
 use Rattle.calls.proofs.Running.{said_more, said_all}
 use Rattle.calls.proofs.checker.Checker.run.Goals as goal
 
@@ -15,10 +16,16 @@ loop-call-preserved g c = λ capacity f.
     subst (λ calls. HasRun m capacity calls c.step.new.self) (said_more cs i _ c.loop-call-test.true)
     (c.in_ok-step.ensures capacity (calls_said (take i cs)) (c.loop-call.invariant capacity f))
 
-pub returns : goal.returns
-returns g c =
+pub returns-clause-runs : goal.returns-clause-runs
+returns-clause-runs g c =
     let m = g.M.Measure in
     let s = g.S.Store in
     let capacity = s.room c.args.store.now in
     subst (λ calls. HasRun m capacity calls c.loop-call.run) (said_all c.args.calls.now c.loop-call.call-index c.loop-call-test.false)
     (c.loop-call.invariant capacity c.in_ok-run.ensures)
+
+pub returns-clause-files : goal.returns-clause-files
+returns-clause-files g c = files_counted g.M.Measure _ _ _ _ _ _ (returns-clause-runs g c).ran
+
+pub returns-clause-lives : goal.returns-clause-lives
+returns-clause-lives g c = lives_told g.M.Measure _ _ _ _ _ _ (returns-clause-runs g c).ran
