@@ -2,7 +2,7 @@
 use Rattle.measure.specs.declared.measure.Measure.{Ghosts}
 use Rattle.std.proofs.Common.{◌≡◌, Bool, true, false, [], ◌∷◌, ◌++◌, IfOk, IfErr, Ok, Err, Result, sym, ap, ◌∙◌, subst, MatchResult}
 use Rattle.std.specs.declared.alloc.AllocError.{AllocError}
-use Rattle.files.specs.Held.{Filed}
+use Rattle.calls.specs.FilesHeld.{Filed}
 use Rattle.book.specs.Book.{with_files, Call, Answer}
 use Rattle.calls.specs.declared.call.Call.{Call as Asked}
 use Rattle.calls.specs.declared.checker.Checker.{Checker}

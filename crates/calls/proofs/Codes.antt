@@ -16,14 +16,14 @@ use Rattle.contract.specs.declared.faults.ListFault.TheVariants as list
 use Rattle.contract.specs.Faults.{contract_fault_code}
 use Rattle.filing.specs.declared.entities.EntityFault.{EntityFault}
 use Rattle.filing.specs.declared.entities.EntityFault.TheVariants as entity
-use Rattle.files.specs.declared.faults.IdentifyFault.{IdentifyFault}
-use Rattle.files.specs.declared.faults.IdentifyFault.TheVariants as identify
-use Rattle.files.specs.declared.faults.PlaceFault.{PlaceFault}
-use Rattle.files.specs.declared.faults.PlaceFault.TheVariants as place
-use Rattle.files.specs.declared.faults.TakeFault.{TakeFault}
-use Rattle.files.specs.declared.faults.TakeFault.TheVariants as take
-use Rattle.files.specs.declared.receipt.Receipt.{Receipt}
-use Rattle.files.specs.Faults.{identify_code, take_number}
+use Rattle.calls.specs.declared.files.faults.IdentifyFault.{IdentifyFault}
+use Rattle.calls.specs.declared.files.faults.IdentifyFault.TheVariants as identify
+use Rattle.calls.specs.declared.files.faults.PlaceFault.{PlaceFault}
+use Rattle.calls.specs.declared.files.faults.PlaceFault.TheVariants as place
+use Rattle.calls.specs.declared.files.faults.TakeFault.{TakeFault}
+use Rattle.calls.specs.declared.files.faults.TakeFault.TheVariants as take
+use Rattle.calls.specs.declared.files.receipt.Receipt.{Receipt}
+use Rattle.calls.specs.FileFaults.{identify_code, take_number}
 use Rattle.life.specs.declared.fault.LifeFault.TheVariants as life
 use Rattle.register.specs.declared.faults.ActFault.{ActFault}
 use Rattle.register.specs.declared.faults.ActFault.TheVariants as act

@@ -8,11 +8,11 @@ use Rattle.text.specs.Rows.{row, first_fit, fields, settled_by}
 use Rattle.text.proofs.Tables.{or_else, one_fitted}
 use Rattle.line.specs.Lines.{line_rows}
 use Rattle.contract.specs.ContractList.{Told, market_rows}
-use Rattle.files.specs.declared.faults.TakeFault.{TakeFault}
-use Rattle.files.specs.Answers.{take_refusal}
-use Rattle.files.specs.Faults.{take_number}
+use Rattle.calls.specs.declared.files.faults.TakeFault.{TakeFault}
+use Rattle.calls.specs.FileAnswers.{take_refusal}
+use Rattle.calls.specs.FileFaults.{take_number}
 use Rattle.filing.specs.Files.{File, taking_rows, one_accepted}
-use Rattle.files.specs.Files.{file_of, counted}
+use Rattle.calls.specs.FilesAfter.{file_of, counted}
 use Rattle.life.specs.Parts.{key_parts, life_parts}
 use Rattle.life.specs.Lives.{look, Same}
 use Rattle.life.specs.Rules.{Wanted, is_new, life_rows}

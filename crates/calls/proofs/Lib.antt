@@ -1,7 +1,9 @@
 pub mod Checkers
 pub mod Codes
+pub mod FilePlaces
 pub mod Histories
 pub mod Judging
 pub mod Laws
 pub mod Moves
+pub mod NameCodes
 pub mod Running

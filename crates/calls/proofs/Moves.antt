@@ -11,16 +11,16 @@ use Rattle.contract.specs.declared.faults.ContractFault.{ContractFault}
 use Rattle.contract.specs.ContractList as contract_list
 use Rattle.contract.specs.Held.{added_in}
 use Rattle.filing.specs.Files.{File, identifying_rows, withdrawing_rows, closing_rows}
-use Rattle.files.specs.declared.faults.IdentifyFault.{IdentifyFault}
-use Rattle.files.specs.declared.faults.NamingError.{NamingError}
-use Rattle.files.specs.declared.faults.NamingError.TheVariants.{Fault, NoMemory}
-use Rattle.files.specs.declared.faults.PlaceFault.{PlaceFault}
-use Rattle.files.specs.declared.token.FileToken.{FileToken}
-use Rattle.files.specs.declared.token.OnlyNamed.{OnlyNamed}
-use Rattle.files.specs.declared.receipt.Receipt.{Receipt}
-use Rattle.files.specs.Answers.{had_memory, name_refusal, identify_refusal, token_refusal, place_refusal, receipt_of}
-use Rattle.files.specs.Faults.{place_number}
-use Rattle.files.specs.Files.{file_of, named_in, identified_in, withdrawn_in, closed_in}
+use Rattle.calls.specs.declared.files.faults.IdentifyFault.{IdentifyFault}
+use Rattle.calls.specs.declared.files.faults.NamingError.{NamingError}
+use Rattle.calls.specs.declared.files.faults.NamingError.TheVariants.{Fault, NoMemory}
+use Rattle.calls.specs.declared.files.faults.PlaceFault.{PlaceFault}
+use Rattle.calls.specs.declared.files.token.FileToken.{FileToken}
+use Rattle.calls.specs.declared.files.token.OnlyNamed.{OnlyNamed}
+use Rattle.calls.specs.declared.files.receipt.Receipt.{Receipt}
+use Rattle.calls.specs.FileAnswers.{had_memory, name_refusal, identify_refusal, token_refusal, place_refusal, receipt_of}
+use Rattle.calls.specs.FileFaults.{place_number}
+use Rattle.calls.specs.FilesAfter.{file_of, named_in, identified_in, withdrawn_in, closed_in}
 use Rattle.life.specs.declared.life.Life.{Life}
 use Rattle.life.specs.Acts.{life_in}
 use Rattle.life.specs.Parts.{key_parts}

@@ -3,7 +3,7 @@ use Rattle.std.specs.Prelude.{ℕ, None, Option}
 use Rattle.text.specs.Bytes.{Bytes}
 use Rattle.filing.specs.Faults.{entity_number, name_number}
 use Rattle.contract.specs.Faults.{contract_fault_number, contract_fault_field, contract_fault_offset, contract_fault_code}
-use Rattle.files.specs.Faults.{identify_number, identify_code, place_number, take_number}
+use Rattle.calls.specs.FileFaults.{identify_number, identify_code, place_number, take_number}
 use Rattle.claims.specs.Faults.{line_fault_number, line_fault_field, line_fault_offset, line_fault_code}
 use Rattle.register.specs.Faults.{act_number, act_field, act_code}
 use Rattle.calls.specs.declared.fault.Fault.{Fault}

@@ -4,8 +4,8 @@ use Rattle.std.specs.Prelude.{◌≡◌, ℕ, false, List, [], ◌∷◌, ◌++�
 use Rattle.text.specs.Bytes.{Bytes}
 use Rattle.text.specs.Rows.{first_fit}
 use Rattle.filing.specs.Names.{naming_rows}
-use Rattle.files.specs.Files.{counted, file_of}
-use Rattle.files.specs.Held.{with_files}
+use Rattle.calls.specs.FilesAfter.{counted, file_of}
+use Rattle.calls.specs.FilesHeld.{with_files}
 use Rattle.book.specs.Book.{Book, Call, NameFile, Answer, answer}
 use Rattle.calls.specs.declared.checker.Checker.{Checker}
 use Rattle.calls.specs.Follows.{book_after, Follows}

@@ -1,5 +1,9 @@
 pub mod Codes
 pub mod Faults
+pub mod FileAnswers
+pub mod FileFaults
+pub mod FilesAfter
+pub mod FilesHeld
 pub mod Follows
 pub mod Held
 pub mod Positions

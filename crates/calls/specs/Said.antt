@@ -5,14 +5,14 @@ use Rattle.filing.specs.declared.entities.EntityFault.{EntityFault}
 use Rattle.filing.specs.Faults.{entity_number, name_number}
 use Rattle.contract.specs.declared.faults.ContractFault.{ContractFault}
 use Rattle.contract.specs.Faults.{contract_fault_number, contract_fault_field, contract_fault_offset}
-use Rattle.files.specs.declared.faults.IdentifyFault.{IdentifyFault}
-use Rattle.files.specs.declared.faults.NamingError.{NamingError}
-use Rattle.files.specs.declared.faults.NamingError.TheVariants.{Fault, NoMemory}
-use Rattle.files.specs.declared.faults.PlaceFault.{PlaceFault}
-use Rattle.files.specs.declared.token.FileToken.{FileToken}
-use Rattle.files.specs.declared.token.OnlyNamed.{OnlyNamed}
-use Rattle.files.specs.declared.receipt.Receipt as files
-use Rattle.files.specs.Faults.{identify_number, place_number}
+use Rattle.calls.specs.declared.files.faults.IdentifyFault.{IdentifyFault}
+use Rattle.calls.specs.declared.files.faults.NamingError.{NamingError}
+use Rattle.calls.specs.declared.files.faults.NamingError.TheVariants.{Fault, NoMemory}
+use Rattle.calls.specs.declared.files.faults.PlaceFault.{PlaceFault}
+use Rattle.calls.specs.declared.files.token.FileToken.{FileToken}
+use Rattle.calls.specs.declared.files.token.OnlyNamed.{OnlyNamed}
+use Rattle.calls.specs.declared.files.receipt.Receipt as files
+use Rattle.calls.specs.FileFaults.{identify_number, place_number}
 use Rattle.life.specs.declared.life.Life.{Life}
 use Rattle.life.specs.Acts.{life_in}
 use Rattle.claims.specs.declared.faults.LineFault.{LineFault}

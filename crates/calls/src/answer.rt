@@ -1,6 +1,6 @@
 // What a checker answers.
 use crate::fault::Fault;
-use files::Receipt;
+use crate::files::Receipt;
 use life::Life;
 
 // What a call that is not refused gives: its acceptance, the counts of a file that is ended, or the life of a line's key.
@@ -16,7 +16,7 @@ pub type Answer = Result<Given, Fault>;
 
 // The answer to a call, or the total where that was asked.
 #[derive(Drop)]
-pub enum Reply<M> {
+pub(crate) enum Reply<M> {
     Answered(Answer),
     Total(M),
 }

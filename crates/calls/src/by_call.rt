@@ -10,10 +10,10 @@ ghost use Rattle.calls.specs.Said.{call_said, answer_said, reply_said, identify_
 use crate::answer::{Answer, Reply};
 use crate::call::Call;
 use crate::checker::Checker;
+use crate::files::{IdentifyFault, PlaceFault, Receipt};
 use crate::replies::{
     copied, of_contract, of_ending, of_entity, of_finding, of_identifying, of_judging, of_naming,
 };
-use files::{IdentifyFault, PlaceFault, Receipt};
 use life::Store;
 use measure::Measure;
 use std::alloc::AllocError;
@@ -49,7 +49,7 @@ impl<'s, S: Store, M: Measure> Checker<'s, S, M> {
 
     // Answers a call. For every list of calls that led here, the answer is the book's after them, and they and this call lead to what is now
     // here. Want of memory, which only naming a file can meet, is no answer, and changes nothing.
-    pub fn call(&mut self, call: &Call) -> Result<Reply<M>, AllocError>
+    pub(crate) fn call(&mut self, call: &Call) -> Result<Reply<M>, AllocError>
         ensures follows { IfOk result (λ reply. Replies M.Measure self.old (call_said call.now) (reply_said reply) self.new) }
         ensures memory { OnErr result (Stays M.Measure self.old self.new) }
         ensures wanting { OnErr result (NamesFile (call_said call.now)) }

@@ -1,6 +1,6 @@
 // A checker: a register, the lists of entities and contracts, and the files.
+use crate::files::FileList;
 use contract::ContractList;
-use files::FileList;
 use filing::EntityList;
 use life::Store;
 use measure::Measure;

@@ -3,9 +3,9 @@ ghost use Rattle.std.specs.Prelude.{◌≡◌, Some, None};
 ghost use Rattle.calls.specs.Faults.{fault_number, fault_field, fault_offset, fault_code};
 
 use crate::faults::JudgeFault;
+use crate::files::{IdentifyFault, PlaceFault};
 use claims::LineFault;
 use contract::ContractFault;
-use files::{IdentifyFault, PlaceFault};
 use filing::{EntityFault, NameFault};
 
 #[derive(Clone, Copy, PartialEq, Eq, Debug)]

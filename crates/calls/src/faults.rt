@@ -3,8 +3,8 @@ ghost use Rattle.std.specs.Prelude.{◌≡◌, Some, None};
 ghost use Rattle.calls.specs.Faults.{judge_number, judge_field, judge_offset, judge_code};
 ghost use Rattle.calls.specs.declared.faults.JudgeFault.TheVariants.{File, Line};
 
+use crate::files::TakeFault;
 use claims::LineFault;
-use files::TakeFault;
 use register::ActFault;
 use text::Kind;
 

@@ -1,12 +1,12 @@
 // The calls on files: each takes the token of its file. A file is named, then identified, then closed; one only named may be withdrawn.
 ghost use Rattle.std.specs.Prelude.{◌≡◌, true, false, length, IfOk, MatchResult};
 ghost use Rattle.book.specs.Book.{NameFile, Identify as IdentifyCall, Withdraw as WithdrawCall, Close as CloseCall};
-ghost use Rattle.files.specs.Answers.{had_memory};
+ghost use Rattle.calls.specs.FileAnswers.{had_memory};
 ghost use Rattle.calls.specs.Held.{Continues, Stays, NamesFile};
 ghost use Rattle.calls.specs.Said.{naming_answer, token_answer, ending_answer};
 
 use crate::checker::Checker;
-use files::{IdentifiedFile, IdentifyFault, NamedFile, NamingError, PlaceFault, Receipt};
+use crate::files::{IdentifiedFile, IdentifyFault, NamedFile, NamingError, PlaceFault, Receipt};
 use life::Store;
 use measure::Measure;
 

@@ -9,15 +9,20 @@ mod completed;
 mod fault;
 mod faults;
 mod file_calls;
+mod files;
 mod lines;
 mod lists;
 mod positions;
 pub mod replies;
 mod runs;
 
-pub use answer::{Answer, Given, Reply};
+pub use answer::{Answer, Given};
 pub use call::Call;
 pub use checker::Checker;
 pub use completed::CompletedRun;
 pub use fault::Fault;
 pub use faults::JudgeFault;
+pub use files::{
+    FileToken, IdentifiedFile, IdentifyFault, NamedFile, NamingError, PlaceFault, Receipt,
+    TakeFault,
+};

@@ -9,8 +9,8 @@ ghost use Rattle.calls.specs.Steps.{Step, Tried};
 
 use crate::checker::Checker;
 use crate::faults::JudgeFault;
+use crate::files::IdentifiedFile;
 use claims::claim;
-use files::IdentifiedFile;
 use life::Store;
 use line::field_offset;
 use measure::Measure;

@@ -8,9 +8,9 @@ ghost use Rattle.calls.specs.Held.{Led, Continues};
 ghost use Rattle.calls.specs.Said.{entity_answer, contract_answer, finding_answer};
 
 use crate::checker::Checker;
+use crate::files::FileList;
 use claims::{LineFault, claim};
 use contract::{ContractFault, ContractList};
-use files::FileList;
 use filing::{EntityFault, EntityList};
 use life::{Life, Store};
 use measure::Measure;

@@ -2,8 +2,8 @@
 ghost use Rattle.std.specs.Prelude.{◌≡◌, true, false, None, IfOk, MatchResult};
 ghost use Rattle.text.specs.declared.words.Kind.{Kind};
 ghost use Rattle.contract.specs.Faults.{contract_fault_code};
-ghost use Rattle.files.specs.Answers.{had_memory};
-ghost use Rattle.files.specs.Faults.{identify_code};
+ghost use Rattle.calls.specs.FileAnswers.{had_memory};
+ghost use Rattle.calls.specs.FileFaults.{identify_code};
 ghost use Rattle.claims.specs.Faults.{line_fault_code};
 ghost use Rattle.calls.specs.Codes.{code_in, code_due};
 ghost use Rattle.calls.specs.Faults.{fault_code, judge_code};
@@ -12,9 +12,9 @@ ghost use Rattle.calls.specs.Said.{answer_said, entity_answer, contract_answer, 
 use crate::answer::{Answer, Given};
 use crate::fault::Fault;
 use crate::faults::JudgeFault;
+use crate::files::{IdentifyFault, NamingError, PlaceFault, Receipt};
 use claims::LineFault;
 use contract::ContractFault;
-use files::{IdentifyFault, NamingError, PlaceFault, Receipt};
 use filing::EntityFault;
 use life::Life;
 use measure::Measure;

@@ -1,5 +1,5 @@
 // What happened, and the printing of it.
-use files::Receipt;
+use calls::Receipt;
 use std::{fmt, io};
 
 // It holds what is printed: numbers, whatever call they come from.

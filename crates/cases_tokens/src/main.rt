@@ -3,9 +3,8 @@
 
 mod journal;
 
-use calls::Checker;
+use calls::{Checker, IdentifiedFile, NamedFile, NamingError};
 use chained::{Chained, Slot};
-use files::{IdentifiedFile, NamedFile, NamingError};
 use journal::{Event, Journal};
 use life::{Key, Life};
 use measure::Sheet;

@@ -13,9 +13,8 @@ ghost use Rattle.session.specs.Held.{in_hand, told, Does, MayWant};
 
 use crate::refusals::Refusal;
 use calls::replies::{of_contract, of_ending, of_entity, of_judging};
-use calls::{Answer, Call, Checker, Fault, Given};
+use calls::{Answer, Call, Checker, Fault, Given, IdentifiedFile, NamedFile, NamingError};
 use commands::Command;
-use files::{IdentifiedFile, NamedFile, NamingError};
 use life::Store;
 use measure::Measure;
 use std::alloc::AllocError;

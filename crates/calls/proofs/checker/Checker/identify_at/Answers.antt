@@ -1,5 +1,5 @@
 use Rattle.std.proofs.Common.{ap}
-use Rattle.files.specs.Held.{Filed}
+use Rattle.calls.specs.FilesHeld.{Filed}
 use Rattle.book.specs.Book.{Identify}
 use Rattle.calls.specs.Held.{book_in}
 use Rattle.calls.specs.Said.{identify_answer}

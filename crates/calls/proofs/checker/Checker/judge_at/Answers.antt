@@ -1,5 +1,5 @@
 use Rattle.std.proofs.Common.{ap}
-use Rattle.files.specs.Held.{Filed}
+use Rattle.calls.specs.FilesHeld.{Filed}
 use Rattle.calls.specs.Held.{book_in}
 use Rattle.calls.proofs.Judging.{counted_step}
 use Rattle.calls.proofs.checker.Checker.judge_at.Goals as goal

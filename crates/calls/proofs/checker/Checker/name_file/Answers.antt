@@ -1,5 +1,5 @@
 use Rattle.std.proofs.Common.{cond, sym, refl, ap, ◌∙◌, subst}
-use Rattle.files.specs.Files.{named_in}
+use Rattle.calls.specs.FilesAfter.{named_in}
 use Rattle.book.specs.Book.{with_files, NameFile}
 use Rattle.calls.specs.Follows.{Follows}
 use Rattle.calls.specs.Held.{book_in}

@@ -1,6 +1,6 @@
 use Rattle.std.proofs.Common.{refl, cond, sym, ap, ◌∙◌, subst}
-use Rattle.files.specs.Answers.{had_memory}
-use Rattle.files.specs.Files.{named_in}
+use Rattle.calls.specs.FileAnswers.{had_memory}
+use Rattle.calls.specs.FilesAfter.{named_in}
 use Rattle.book.specs.Book.{with_files, NameFile}
 use Rattle.calls.specs.declared.checker.Checker.{Checker}
 use Rattle.calls.specs.Follows.{Follows}

@@ -1,2 +1,0 @@
-pub mod NameCodes
-pub mod Places

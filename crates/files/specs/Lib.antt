@@ -1,4 +1,0 @@
-pub mod Answers
-pub mod Faults
-pub mod Files
-pub mod Held

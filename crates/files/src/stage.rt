@@ -1,7 +1,0 @@
-// Where a file stands: first named, then identified, then ended by closing, or by withdrawing where it was only named.
-#[derive(Clone, Copy, PartialEq, Eq, Debug)]
-pub enum Stage {
-    Named,
-    Identified,
-    Ended,
-}
