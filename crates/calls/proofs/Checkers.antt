@@ -27,8 +27,8 @@ module _ {S M : Type 0} (weighing : Ghosts M) where
   -- a step that alters nothing but the files
   pub continues_files : (was : Checker S M) (files : Filed) (c : Call) (a : Answer) →
       Step weighing (book_in was) was.register.total c a (with_files (book_in was) files.files) was.register.total →
-      Continues weighing was c a (record { register = was.register; entities = was.entities; contracts = was.contracts; files = files })
-  continues_files was files c a s = continues was (record { register = was.register; entities = was.entities; contracts = was.contracts; files = files }) c a s
+      Continues weighing was c a (record was { files = files })
+  continues_files was files c a s = continues was (record was { files = files }) c a s
 
   -- naming a file, where want of memory is no answer
   pub named_so : (was is : Checker S M) (c : Call) (had : Bool) (a : Answer) (r : Result Spoken AllocError) →

@@ -18,7 +18,7 @@ use life::Store;
 use measure::Measure;
 use std::alloc::AllocError;
 
-impl<'s, S: Store, M: Measure> Checker<'s, S, M> {
+impl<'id, 's, S: Store, M: Measure> Checker<'id, 's, S, M> {
     fn identify_at(&mut self, number: usize, code: &[u8]) -> Result<(), IdentifyFault>
         ensures { Continues M.Measure self.old (IdentifyCall number code.now) (identify_answer result) self.new }
     {

@@ -1,5 +1,5 @@
 // A checker: a register, the lists of entities and contracts, and the files.
-use crate::files::FileList;
+use crate::files::{Brand, FileList};
 use contract::ContractList;
 use filing::EntityList;
 use life::Store;
@@ -7,9 +7,10 @@ use measure::Measure;
 use register::Register;
 
 #[derive(Drop)]
-pub struct Checker<'s, S: Store, M: Measure> {
+pub struct Checker<'id, 's, S: Store, M: Measure> {
     pub(crate) register: Register<'s, S, M>,
     pub(crate) entities: EntityList,
     pub(crate) contracts: ContractList,
     pub(crate) files: FileList,
+    pub(crate) brand: Brand<'id>,
 }

@@ -1,14 +1,25 @@
 // What a run of calls leaves.
+ghost use Rattle.std.specs.Prelude.{◌≡◌};
+
 use crate::answer::Answer;
 use crate::checker::Checker;
 use life::Store;
 use measure::Measure;
 
-// The checker; its answers, of which those to calls for the total say 'accepted'; and the totals that it was asked for. Both are in the order of
+// The checker, which can be read; its answers, of which those to calls for the total say 'accepted'; and the totals that it was asked for. Both are in the order of
 // the calls, in two lists, as the book gives them.
 #[derive(Drop)]
 pub struct CompletedRun<'s, S: Store, M: Measure> {
-    pub checker: Checker<'s, S, M>,
+    pub(crate) checker: Checker<'static, 's, S, M>,
     pub answers: Vec<Answer>,
     pub totals: Vec<M>,
+}
+
+impl<'s, S: Store, M: Measure> CompletedRun<'s, S, M> {
+    // The checker, to be read: its mark is not its own, so it makes no tokens.
+    pub fn checker(&self) -> &Checker<'static, 's, S, M>
+        ensures { result.now ≡ self.now.checker }
+    {
+        &self.checker
+    }
 }

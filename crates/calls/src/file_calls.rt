@@ -10,9 +10,9 @@ use crate::files::{IdentifiedFile, IdentifyFault, NamedFile, NamingError, PlaceF
 use life::Store;
 use measure::Measure;
 
-impl<'s, S: Store, M: Measure> Checker<'s, S, M> {
+impl<'id, 's, S: Store, M: Measure> Checker<'id, 's, S, M> {
     // Names a file; its number is how many were named before. Want of memory is no answer: nothing changes then.
-    pub fn name_file(&mut self, name: &[u8]) -> Result<NamedFile, NamingError>
+    pub fn name_file(&mut self, name: &[u8]) -> Result<NamedFile<'id>, NamingError>
         ensures number { IfOk result (λ file. file.number ≡ length (self.old.files.files)) }
         ensures follows { had_memory result ≡ true → Continues M.Measure self.old (NameFile name.now) (naming_answer result) self.new }
         ensures memory { had_memory result ≡ false → Stays M.Measure self.old self.new }
@@ -24,25 +24,25 @@ impl<'s, S: Store, M: Measure> Checker<'s, S, M> {
     // Identifies a named file by the code of its entity. A refusal hands the token back as it was.
     pub fn identify(
         &mut self,
-        file: NamedFile,
+        file: NamedFile<'id>,
         code: &[u8],
-    ) -> Result<IdentifiedFile, (IdentifyFault, NamedFile)>
-        ensures token { MatchResult result (λ identified. identified.number ≡ file.number) (λ refusal. refusal.1 ≡ file) }
-        ensures follows { Continues M.Measure self.old (IdentifyCall file.number code.now) (token_answer result) self.new }
+    ) -> Result<IdentifiedFile<'id>, (IdentifyFault, NamedFile<'id>)>
+        ensures token { MatchResult result (λ identified. identified.number ≡ file.entry.number) (λ refusal. refusal.1 ≡ file.entry) }
+        ensures follows { Continues M.Measure self.old (IdentifyCall file.entry.number code.now) (token_answer result) self.new }
     {
         self.files.identify(file, &self.entities, code)
     }
 
     // Ends a file that is only named, and gives its receipt.
-    pub fn withdraw(&mut self, file: NamedFile) -> Result<Receipt, PlaceFault>
-        ensures { Continues M.Measure self.old (WithdrawCall file.number) (ending_answer result) self.new }
+    pub fn withdraw(&mut self, file: NamedFile<'id>) -> Result<Receipt, PlaceFault>
+        ensures { Continues M.Measure self.old (WithdrawCall file.entry.number) (ending_answer result) self.new }
     {
         self.files.withdraw(file)
     }
 
     // Ends an identified file, and gives its receipt.
-    pub fn close(&mut self, file: IdentifiedFile) -> Result<Receipt, PlaceFault>
-        ensures { Continues M.Measure self.old (CloseCall file.number) (ending_answer result) self.new }
+    pub fn close(&mut self, file: IdentifiedFile<'id>) -> Result<Receipt, PlaceFault>
+        ensures { Continues M.Measure self.old (CloseCall file.entry.number) (ending_answer result) self.new }
     {
         self.files.close(file)
     }

@@ -13,4 +13,5 @@ mod token;
 pub use faults::{IdentifyFault, NamingError, PlaceFault, TakeFault};
 pub(crate) use list::FileList;
 pub use receipt::Receipt;
-pub use token::{FileToken, IdentifiedFile, NamedFile};
+pub(crate) use token::Brand;
+pub use token::{FileToken, IdentifiedFile, Mark, NamedFile, with_mark};

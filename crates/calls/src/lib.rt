@@ -23,6 +23,6 @@ pub use completed::CompletedRun;
 pub use fault::Fault;
 pub use faults::JudgeFault;
 pub use files::{
-    FileToken, IdentifiedFile, IdentifyFault, NamedFile, NamingError, PlaceFault, Receipt,
-    TakeFault,
+    FileToken, IdentifiedFile, IdentifyFault, Mark, NamedFile, NamingError, PlaceFault, Receipt,
+    TakeFault, with_mark,
 };

@@ -15,10 +15,10 @@ use life::Store;
 use line::field_offset;
 use measure::Measure;
 
-impl<'s, S: Store, M: Measure> Checker<'s, S, M> {
+impl<'id, 's, S: Store, M: Measure> Checker<'id, 's, S, M> {
     // Judges a line in an identified file, where it counts. Refused, the checker is what it was, but that one line more is refused in its file if
     // that took it.
-    pub fn judge(&mut self, file: &IdentifiedFile, line: &[u8]) -> Result<(), JudgeFault>
+    pub fn judge(&mut self, file: &IdentifiedFile<'id>, line: &[u8]) -> Result<(), JudgeFault>
         ensures follows { Continues M.Measure self.old (JudgeCall file.now.number line.now) (judge_answer result) self.new }
         ensures refused { OnErr result (self.new ≡ one_refused_in self.old file.now.number) }
         ensures code { code_in judge_code result ≡ code_due (kind_of line.now) (judge_answer result) }

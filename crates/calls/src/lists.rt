@@ -8,7 +8,7 @@ ghost use Rattle.calls.specs.Held.{Led, Continues};
 ghost use Rattle.calls.specs.Said.{entity_answer, contract_answer, finding_answer};
 
 use crate::checker::Checker;
-use crate::files::FileList;
+use crate::files::{FileList, Mark};
 use claims::{LineFault, claim};
 use contract::{ContractFault, ContractList};
 use filing::{EntityFault, EntityList};
@@ -17,9 +17,13 @@ use measure::Measure;
 use register::Register;
 use std::alloc::{AllocError, Global};
 
-impl<'s, S: Store, M: Measure> Checker<'s, S, M> {
-    // A checker that has had no calls, with room for as many lives as the store, which is emptied.
-    pub fn new(heap: Global, store: &'s mut S) -> Result<Checker<'s, S, M>, AllocError>
+impl<'id, 's, S: Store, M: Measure> Checker<'id, 's, S, M> {
+    // A checker that has had no calls, with room for as many lives as the store, which is emptied. Its tokens have its mark.
+    pub fn new(
+        heap: Global,
+        store: &'s mut S,
+        mark: Mark<'id>,
+    ) -> Result<Checker<'id, 's, S, M>, AllocError>
         ensures { IfOk result (λ c. Led M.Measure (S.room store.old) [] c) }
     {
         let entities = EntityList::new(heap)?;
@@ -31,6 +35,7 @@ impl<'s, S: Store, M: Measure> Checker<'s, S, M> {
             entities,
             contracts,
             files,
+            brand: mark.brand(),
         })
     }
 

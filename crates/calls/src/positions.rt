@@ -6,7 +6,7 @@ use crate::checker::Checker;
 use life::{CONTRACTS, Store};
 use measure::{Both, Measure, Sheet};
 
-impl<'s, S: Store, B: Measure> Checker<'s, S, Both<Sheet, B>> {
+impl<'id, 's, S: Store, B: Measure> Checker<'id, 's, S, Both<Sheet, B>> {
     // The position of a contract, in hundred-thousandths. Over a store with room for at most 65,535 lives it is the true sum over the open trades of
     // the book: what was bought less what was sold.
     pub fn position(&self, contract: u8) -> i64

@@ -10,6 +10,7 @@ use crate::answer::{Given, Reply};
 use crate::call::Call;
 use crate::checker::Checker;
 use crate::completed::CompletedRun;
+use crate::files::Mark;
 use life::Store;
 use measure::Measure;
 use std::alloc::{AllocError, Global};
@@ -23,7 +24,7 @@ impl<'s, S: Store, M: Measure> CompletedRun<'s, S, M> {
     ) -> Result<CompletedRun<'s, S, M>, AllocError>
         ensures { IfOk result (λ run. HasRun M.Measure (S.room store.old) [] run) }
     {
-        let checker = Checker::new(heap, store)?;
+        let checker = Checker::new(heap, store, Mark::new())?;
         let answers = Vec::with_capacity(heap, calls.len())?;
         Ok(CompletedRun {
             checker,
@@ -47,7 +48,7 @@ impl<'s, S: Store, M: Measure> CompletedRun<'s, S, M> {
     }
 }
 
-impl<'s, S: Store, M: Measure> Checker<'s, S, M> {
+impl<'s, S: Store, M: Measure> Checker<'static, 's, S, M> {
     // A new checker over the store, and its answers to a whole list of calls. The lines judged in a file are the calls on it that were answered
     // neither 66 nor 9; a file ends at most once, and its receipt has its counts. Each life is what the accepted lines of its key tell.
     pub fn run(

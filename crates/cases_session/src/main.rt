@@ -1,7 +1,7 @@
 // A long mixed input, over the chained store with as many slots as the checker has where no option says another number.
 #![tactic(auto)]
 
-use calls::Checker;
+use calls::{Checker, with_mark};
 use chained::Chained;
 use commands::{SLOTS, free_slots};
 use session::answer_all;
@@ -14,6 +14,8 @@ fn main(rt: HostRuntime) -> io::Result<()> {
     rt.stdin().read_to_end(&mut input)?;
     let mut slots = free_slots(heap, SLOTS)?;
     let mut store = Chained::new(&mut slots);
-    let mut checker = Checker::new(heap, &mut store)?;
-    answer_all(rt, &mut checker, &input, false)
+    with_mark(|mark| {
+        let mut checker = Checker::new(heap, &mut store, mark)?;
+        answer_all(rt, &mut checker, &input, false)
+    })
 }

@@ -1,7 +1,7 @@
 // A long mixed input over a chained store that is soon full.
 #![tactic(auto)]
 
-use calls::Checker;
+use calls::{Checker, with_mark};
 use chained::Chained;
 use commands::free_slots;
 use session::answer_all;
@@ -17,6 +17,8 @@ fn main(rt: HostRuntime) -> io::Result<()> {
     rt.stdin().read_to_end(&mut input)?;
     let mut slots = free_slots(heap, FEW_SLOTS)?;
     let mut store = Chained::new(&mut slots);
-    let mut checker = Checker::new(heap, &mut store)?;
-    answer_all(rt, &mut checker, &input, false)
+    with_mark(|mark| {
+        let mut checker = Checker::new(heap, &mut store, mark)?;
+        answer_all(rt, &mut checker, &input, false)
+    })
 }

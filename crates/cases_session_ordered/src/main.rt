@@ -1,7 +1,7 @@
 // A long mixed input over the ordered store, with room for as many lives as the chained store of the checker: the answers are the same.
 #![tactic(auto)]
 
-use calls::Checker;
+use calls::{Checker, with_mark};
 use commands::SLOTS;
 use life::{Key, Life};
 use ordered::{Entry, Ordered};
@@ -19,6 +19,8 @@ fn main(rt: HostRuntime) -> io::Result<()> {
     let life = Life::new(0, 0, None).unwrap();
     let mut entries = vec![in heap; Entry { key, life }; SLOTS - 1]?;
     let mut store = Ordered::new(&mut entries);
-    let mut checker = Checker::new(heap, &mut store)?;
-    answer_all(rt, &mut checker, &input, false)
+    with_mark(|mark| {
+        let mut checker = Checker::new(heap, &mut store, mark)?;
+        answer_all(rt, &mut checker, &input, false)
+    })
 }

@@ -3,7 +3,7 @@
 
 mod journal;
 
-use calls::{Checker, IdentifiedFile, NamedFile, NamingError};
+use calls::{Checker, IdentifiedFile, NamedFile, NamingError, with_mark};
 use chained::{Chained, Slot};
 use journal::{Event, Journal};
 use life::{Key, Life};
@@ -37,12 +37,12 @@ static LINES: [&'static [u8]; 7] = [
 
 // A checker that is driven, and the journal of what it answers.
 #[derive(Drop)]
-struct Driver<'s, 't> {
-    checker: Checker<'s, Chained<'t>, Sheet>,
+struct Driver<'id, 's, 't> {
+    checker: Checker<'id, 's, Chained<'t>, Sheet>,
     journal: Journal,
 }
 
-impl Driver<'_, '_> {
+impl<'id> Driver<'id, '_, '_> {
     // Adds an entity and a contract.
     fn add_lists(&mut self) {
         match self.checker.add_entity(ENTITY) {
@@ -55,7 +55,7 @@ impl Driver<'_, '_> {
         }
     }
 
-    fn name(&mut self, name: &[u8]) -> Option<NamedFile> {
+    fn name(&mut self, name: &[u8]) -> Option<NamedFile<'id>> {
         match self.checker.name_file(name) {
             Ok(file) => {
                 self.journal.tell(Event::Named(file.number()));
@@ -73,7 +73,11 @@ impl Driver<'_, '_> {
     }
 
     // The token of the identified file, or the one that a refusal hands back.
-    fn identify(&mut self, named: NamedFile, code: &[u8]) -> Result<IdentifiedFile, NamedFile> {
+    fn identify(
+        &mut self,
+        named: NamedFile<'id>,
+        code: &[u8],
+    ) -> Result<IdentifiedFile<'id>, NamedFile<'id>> {
         match self.checker.identify(named, code) {
             Ok(identified) => {
                 self.journal.tell(Event::Identified(identified.number()));
@@ -89,7 +93,7 @@ impl Driver<'_, '_> {
         }
     }
 
-    fn judge_lines(&mut self, file: &IdentifiedFile) {
+    fn judge_lines(&mut self, file: &IdentifiedFile<'id>) {
         for line in &LINES {
             match self.checker.judge(file, line) {
                 Ok(()) => self.journal.tell(Event::Accepted),
@@ -102,14 +106,14 @@ impl Driver<'_, '_> {
         }
     }
 
-    fn withdraw(&mut self, named: NamedFile) {
+    fn withdraw(&mut self, named: NamedFile<'id>) {
         match self.checker.withdraw(named) {
             Ok(receipt) => self.journal.tell(Event::Withdrawn(receipt)),
             Err(fault) => self.journal.tell(Event::NotEnded(fault.number())),
         }
     }
 
-    fn close(&mut self, identified: IdentifiedFile) {
+    fn close(&mut self, identified: IdentifiedFile<'id>) {
         match self.checker.close(identified) {
             Ok(receipt) => self.journal.tell(Event::Closed(receipt)),
             Err(fault) => self.journal.tell(Event::NotEnded(fault.number())),
@@ -170,10 +174,12 @@ fn main(rt: HostRuntime) -> io::Result<()> {
     };
     let mut slots = [slot; 3];
     let mut store = Chained::new(&mut slots);
-    let mut driver = Driver {
-        checker: Checker::new(rt.alloc(), &mut store)?,
-        journal: Journal::new(rt),
-    };
-    driver.drive();
-    driver.journal.end()
+    with_mark(|mark| {
+        let mut driver = Driver {
+            checker: Checker::new(rt.alloc(), &mut store, mark)?,
+            journal: Journal::new(rt),
+        };
+        driver.drive();
+        driver.journal.end()
+    })
 }

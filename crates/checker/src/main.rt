@@ -3,7 +3,7 @@
 
 mod options;
 
-use calls::Checker;
+use calls::{Checker, with_mark};
 use chained::Chained;
 use commands::free_slots;
 use options::Options;
@@ -18,8 +18,10 @@ fn check(rt: HostRuntime, options: Options) -> io::Result<()> {
     rt.stdin().read_to_end(&mut input)?;
     let mut slots = free_slots(heap, options.slots)?;
     let mut store = Chained::new(&mut slots);
-    let mut checker = Checker::new(heap, &mut store)?;
-    answer_all(rt, &mut checker, &input, options.explains)
+    with_mark(|mark| {
+        let mut checker = Checker::new(heap, &mut store, mark)?;
+        answer_all(rt, &mut checker, &input, options.explains)
+    })
 }
 
 fn main(rt: HostRuntime) -> io::Result<ExitCode> {

@@ -27,10 +27,10 @@ fn put_totals<S: Store>(
     run: &CompletedRun<S, Totals>,
 ) -> Result<(), AllocError> {
     let mut buffer = [0; ROOM];
-    if let Ok(n) = write_positions(&mut buffer, &run.checker.positions()) {
+    if let Ok(n) = write_positions(&mut buffer, &run.checker().positions()) {
         out.extend_from_slice(&buffer[..n])?;
     }
-    let (_, word) = run.checker.total().parts();
+    let (_, word) = run.checker().total().parts();
     if let Ok(n) = (AnswerLine::CheckWord { word: word.word }).write(&mut buffer) {
         out.extend_from_slice(&buffer[..n])?;
     }

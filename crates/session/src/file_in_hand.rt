@@ -20,10 +20,10 @@ use measure::Measure;
 use std::alloc::AllocError;
 
 // No file is in hand, or one that is only named, or an identified one. It holds a token, so it can't be let go: each function hands it on.
-pub(crate) enum FileInHand {
+pub(crate) enum FileInHand<'id> {
     None,
-    Named(NamedFile),
-    Identified(IdentifiedFile),
+    Named(NamedFile<'id>),
+    Identified(IdentifiedFile<'id>),
 }
 
 // What a command is answered.
@@ -37,10 +37,10 @@ pub(crate) fn answered(answer: Answer) -> Told
     Ok(answer?)
 }
 
-fn name_file<S: Store, M: Measure>(
-    checker: &mut Checker<S, M>,
+fn name_file<'id, S: Store, M: Measure>(
+    checker: &mut Checker<'id, '_, S, M>,
     name: &[u8],
-) -> (FileInHand, Result<Told, AllocError>)
+) -> (FileInHand<'id>, Result<Told, AllocError>)
     ensures follows { IfOk result.1 (λ res. Does M.Measure checker.old NoFile (Some (NameCall name.now)) (told res) (in_hand result.0) checker.new) }
     ensures code { IfOk result.1 (λ res. (kind : Kind) → code_in refusal_code res ≡ code_due kind (told res)) }
     ensures memory { OnErr result.1 ((in_hand result.0 ≡ NoFile) × Stays M.Measure checker.old checker.new) }
@@ -56,13 +56,13 @@ fn name_file<S: Store, M: Measure>(
     }
 }
 
-fn identify<S: Store, M: Measure>(
-    checker: &mut Checker<S, M>,
-    file: NamedFile,
+fn identify<'id, S: Store, M: Measure>(
+    checker: &mut Checker<'id, '_, S, M>,
+    file: NamedFile<'id>,
     code: &[u8],
-) -> (FileInHand, Told)
+) -> (FileInHand<'id>, Told)
     ensures code { (kind : Kind) → code_in refusal_code result.1 ≡ code_due kind (told result.1) }
-    ensures follows { Does M.Measure checker.old (OnlyNamed file.number) (Some (IdentifyCall file.number code.now)) (told result.1) (in_hand result.0) checker.new }
+    ensures follows { Does M.Measure checker.old (OnlyNamed file.entry.number) (Some (IdentifyCall file.entry.number code.now)) (told result.1) (in_hand result.0) checker.new }
 {
     match checker.identify(file, code) {
         Ok(file) => (FileInHand::Identified(file), Ok(Given::Accepted)),
@@ -73,35 +73,37 @@ fn identify<S: Store, M: Measure>(
     }
 }
 
-impl FileInHand {
+impl<'id> FileInHand<'id> {
     // What a command does: the file that is in hand then, and what is answered.
     pub(crate) fn follow<S: Store, M: Measure>(
         self,
-        checker: &mut Checker<S, M>,
+        checker: &mut Checker<'id, '_, S, M>,
         command: Command,
-    ) -> (FileInHand, Result<Told, AllocError>)
-        ensures follows { IfOk result.1 (λ res. Does M.Measure checker.old (in_hand self) (call_by (in_hand self) (command_parts command.entry)) (told res) (in_hand result.0) checker.new) }
+    ) -> (FileInHand<'id>, Result<Told, AllocError>)
+        ensures follows { IfOk result.1 (λ res. Does M.Measure checker.old (in_hand self.entry) (call_by (in_hand self.entry) (command_parts command.entry)) (told res) (in_hand result.0) checker.new) }
         ensures code { IfOk result.1 (λ res. code_in refusal_code res ≡ code_due (kind_asked (command_parts command.entry)) (told res)) }
-        ensures memory { OnErr result.1 ((in_hand result.0 ≡ in_hand self) × Stays M.Measure checker.old checker.new) }
-        ensures wanting { OnErr result.1 (MayWant (call_by (in_hand self) (command_parts command.entry))) }
+        ensures memory { OnErr result.1 ((in_hand result.0 ≡ in_hand self.entry) × Stays M.Measure checker.old checker.new) }
+        ensures wanting { OnErr result.1 (MayWant (call_by (in_hand self.entry) (command_parts command.entry))) }
     {
-        let (file, told) = match (command, self) {
-            (Command::NameFile(name), FileInHand::None) => return name_file(checker, name),
+        match (command, self) {
+            (Command::NameFile(name), FileInHand::None) => name_file(checker, name),
             (Command::AddEntity(code), file) => {
-                (file, answered(of_entity(checker.add_entity(code))))
+                (file, Ok(answered(of_entity(checker.add_entity(code)))))
             }
             (Command::AddContract(text), file) => {
-                (file, answered(of_contract(checker.add_contract(text))))
+                (file, Ok(answered(of_contract(checker.add_contract(text)))))
             }
-            (Command::Identify(code), FileInHand::Named(file)) => identify(checker, file, code),
+            (Command::Identify(code), FileInHand::Named(file)) => {
+                let (file, told) = identify(checker, file, code);
+                (file, Ok(told))
+            }
             (Command::Judge(line), FileInHand::Identified(file)) => {
                 let answer = of_judging(checker.judge(&file, line));
-                (FileInHand::Identified(file), answered(answer))
+                (FileInHand::Identified(file), Ok(answered(answer)))
             }
-            (Command::EndFile, file) => (FileInHand::None, file.end(checker)),
-            (_, file) => (file, Err(Refusal::OutOfPlace)),
-        };
-        (file, Ok(told))
+            (Command::EndFile, file) => (FileInHand::None, Ok(file.end(checker))),
+            (_, file) => (file, Ok(Err(Refusal::OutOfPlace))),
+        }
     }
 
     // The call that ends the file that is in hand, if one is.
@@ -135,8 +137,8 @@ impl FileInHand {
     }
 
     // Ends the file that is in hand, if one is.
-    pub(crate) fn end<S: Store, M: Measure>(self, checker: &mut Checker<S, M>) -> Told
-        ensures follows { Does M.Measure checker.old (in_hand self) (ending (in_hand self)) (told result) NoFile checker.new }
+    pub(crate) fn end<S: Store, M: Measure>(self, checker: &mut Checker<'id, '_, S, M>) -> Told
+        ensures follows { Does M.Measure checker.old (in_hand self.entry) (ending (in_hand self.entry)) (told result) NoFile checker.new }
         ensures code { (kind : Kind) → code_in refusal_code result ≡ code_due kind (told result) }
     {
         match self {

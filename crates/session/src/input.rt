@@ -9,7 +9,7 @@ use crate::file_in_hand::FileInHand;
 use crate::lines::Lines;
 use crate::printer::Printer;
 use crate::reply::Totals;
-use calls::{Call, Checker};
+use calls::{Call, Checker, Mark, with_mark};
 use life::Store;
 use measure::{Both, CheckWord, Measure, Sheet};
 use std::alloc::{AllocError, Global};
@@ -19,7 +19,7 @@ use std::io;
 // were given to the checker, one after another. On standard error each refusal is explained, where that is wanted.
 pub fn answer_all<S: Store>(
     rt: HostRuntime,
-    checker: &mut Checker<S, Totals>,
+    checker: &mut Checker<'_, '_, S, Totals>,
     input: &[u8],
     explains: bool,
 ) -> io::Result<()>
@@ -65,7 +65,19 @@ pub fn calls_of_input<'c, S: Store>(
 ) -> Result<Vec<Call<'c>>, AllocError>
     ensures { IfOk result (λ calls. calls_said calls.items ≡ calls_of_input (empty_book (S.room store.old)) input.now) }
 {
-    let mut checker = Checker::<S, Totals>::new(heap, store)?;
+    with_mark(|mark| calls_with(mark, heap, store, input))
+}
+
+// The same, on a checker of this mark.
+fn calls_with<'c, S: Store>(
+    mark: Mark<'_>,
+    heap: Global,
+    store: &mut S,
+    input: &'c [u8],
+) -> Result<Vec<Call<'c>>, AllocError>
+    ensures { IfOk result (λ calls. calls_said calls.items ≡ calls_of_input (empty_book (S.room store.old)) input.now) }
+{
+    let mut checker = Checker::<S, Totals>::new(heap, store, mark)?;
     let mut calls = Vec::new(heap);
     let mut file = FileInHand::None;
     for line in Lines::of(input) {

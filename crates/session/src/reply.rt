@@ -23,18 +23,18 @@ pub(crate) enum Reply {
     CheckWord(u64),
 }
 
-impl FileInHand {
+impl<'id> FileInHand<'id> {
     // Answers a line of input: the file that is in hand then, and the reply; or nothing, for want of memory, and nothing changes.
     pub(crate) fn answer<S: Store>(
         self,
-        checker: &mut Checker<S, Totals>,
+        checker: &mut Checker<'id, '_, S, Totals>,
         line: &[u8],
-    ) -> (FileInHand, Result<Reply, AllocError>)
-        ensures follows { IfOk result.1 (λ reply. Answers ⟦<Both<Sheet, CheckWord> as Measure>⟧ checker.old (in_hand self) line.now reply (in_hand result.0) checker.new) }
+    ) -> (FileInHand<'id>, Result<Reply, AllocError>)
+        ensures follows { IfOk result.1 (λ reply. Answers ⟦<Both<Sheet, CheckWord> as Measure>⟧ checker.old (in_hand self.entry) line.now reply (in_hand result.0) checker.new) }
         ensures held { IfOk result.1 (λ reply. TellsHeld ⟦<Both<Sheet, CheckWord> as Measure>⟧ checker.old reply) }
         ensures text { IfOk result.1 (λ reply. HasText (kind_of_line line.now) reply) }
-        ensures memory { OnErr result.1 ((in_hand result.0 ≡ in_hand self) × Stays ⟦<Both<Sheet, CheckWord> as Measure>⟧ checker.old checker.new) }
-        ensures wanting { OnErr result.1 (MayWant (call_of_line (in_hand self) line.now)) }
+        ensures memory { OnErr result.1 ((in_hand result.0 ≡ in_hand self.entry) × Stays ⟦<Both<Sheet, CheckWord> as Measure>⟧ checker.old checker.new) }
+        ensures wanting { OnErr result.1 (MayWant (call_of_line (in_hand self.entry) line.now)) }
     {
         match Command::read(line) {
             Err(fault) => (self, Ok(Reply::Told(Err(Refusal::Unread(fault))))),
@@ -43,10 +43,13 @@ impl FileInHand {
                 let (_, word) = checker.total().parts();
                 (self, Ok(Reply::CheckWord(word.word)))
             }
-            Ok(command) => match self.follow(checker, command) {
-                (file, Ok(told)) => (file, Ok(Reply::Told(told))),
-                (file, Err(AllocError)) => (file, Err(AllocError)),
-            },
+            Ok(command) => {
+                let (file, told) = self.follow(checker, command);
+                match told {
+                    Ok(told) => (file, Ok(Reply::Told(told))),
+                    Err(AllocError) => (file, Err(AllocError)),
+                }
+            }
         }
     }
 }

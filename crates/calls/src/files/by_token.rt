@@ -14,15 +14,15 @@ use filing::EntityList;
 
 impl FileList {
     // Identifies a file by the code of its entity. A refusal hands the token back.
-    pub(crate) fn identify(
+    pub(crate) fn identify<'id>(
         &mut self,
-        file: NamedFile,
+        file: NamedFile<'id>,
         entities: &EntityList,
         code: &[u8],
-    ) -> Result<IdentifiedFile, (IdentifyFault, NamedFile)>
-        ensures told { token_refusal result ≡ first_fit identifying_rows (entities.now, file_of self.old.files file.number, code.now) }
-        ensures token { MatchResult result (λ identified. identified.number ≡ file.number) (λ refusal. refusal.1 ≡ file) }
-        ensures list { self.new ≡ with_files (identified_in entities.now self.old.files file.number code.now) self.old }
+    ) -> Result<IdentifiedFile<'id>, (IdentifyFault, NamedFile<'id>)>
+        ensures told { token_refusal result ≡ first_fit identifying_rows (entities.now, file_of self.old.files file.entry.number, code.now) }
+        ensures token { MatchResult result (λ identified. identified.number ≡ file.entry.number) (λ refusal. refusal.1 ≡ file.entry) }
+        ensures list { self.new ≡ with_files (identified_in entities.now self.old.files file.entry.number code.now) self.old }
     {
         match self.identify_at(file.number(), entities, code) {
             Ok(()) => Ok(file.into_identified()),
@@ -31,19 +31,19 @@ impl FileList {
     }
 
     // Ends a file that is only named, and gives its counts.
-    pub(crate) fn withdraw(&mut self, file: NamedFile) -> Result<Receipt, PlaceFault>
-        ensures told { place_refusal result ≡ first_fit withdrawing_rows (file_of self.old.files file.number) }
-        ensures counts { IfOk result (λ receipt. receipt ≡ receipt_of (file_of self.old.files file.number)) }
-        ensures list { self.new ≡ with_files (withdrawn_in self.old.files file.number) self.old }
+    pub(crate) fn withdraw(&mut self, file: NamedFile<'_>) -> Result<Receipt, PlaceFault>
+        ensures told { place_refusal result ≡ first_fit withdrawing_rows (file_of self.old.files file.entry.number) }
+        ensures counts { IfOk result (λ receipt. receipt ≡ receipt_of (file_of self.old.files file.entry.number)) }
+        ensures list { self.new ≡ with_files (withdrawn_in self.old.files file.entry.number) self.old }
     {
         self.withdraw_at(file.into_number())
     }
 
     // Ends a file that is identified, and gives its counts.
-    pub(crate) fn close(&mut self, file: IdentifiedFile) -> Result<Receipt, PlaceFault>
-        ensures told { place_refusal result ≡ first_fit closing_rows (file_of self.old.files file.number) }
-        ensures counts { IfOk result (λ receipt. receipt ≡ receipt_of (file_of self.old.files file.number)) }
-        ensures list { self.new ≡ with_files (closed_in self.old.files file.number) self.old }
+    pub(crate) fn close(&mut self, file: IdentifiedFile<'_>) -> Result<Receipt, PlaceFault>
+        ensures told { place_refusal result ≡ first_fit closing_rows (file_of self.old.files file.entry.number) }
+        ensures counts { IfOk result (λ receipt. receipt ≡ receipt_of (file_of self.old.files file.entry.number)) }
+        ensures list { self.new ≡ with_files (closed_in self.old.files file.entry.number) self.old }
     {
         self.close_at(file.into_number())
     }

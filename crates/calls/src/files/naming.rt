@@ -43,7 +43,7 @@ impl FileList {
     }
 
     // Names a file, and gives its token.
-    pub(crate) fn name(&mut self, name: &[u8]) -> Result<NamedFile, NamingError>
+    pub(crate) fn name<'id>(&mut self, name: &[u8]) -> Result<NamedFile<'id>, NamingError>
         ensures told { name_refusal result ≡ (if had_memory result then first_fit naming_rows name.now else None) }
         ensures number { IfOk result (λ file. file.number ≡ length self.old.files) }
         ensures list { self.new.files ≡ (if had_memory result then named_in self.old.files name.now else self.old.files) }

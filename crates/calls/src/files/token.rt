@@ -8,22 +8,51 @@ pub struct OnlyNamed;
 
 pub struct AlreadyIdentified;
 
-pub struct FileToken<S> {
-    number: usize,
-    stands: PhantomData<S>,
+// Ties a token to its checker.
+pub(crate) type Brand<'id> = PhantomData<&'id mut &'id ()>;
+
+// What makes one checker, and ties its tokens to it. Each mark has a lifetime of its own, which no other mark has.
+#[derive(Drop)]
+pub struct Mark<'id> {
+    brand: Brand<'id>,
 }
 
-pub type NamedFile = FileToken<OnlyNamed>;
+// Does work with a new mark.
+pub fn with_mark<R, F: for<'id> FnOnce(Mark<'id>) -> R>(work: F) -> R
+    requires { (mark : _) → F.pre work mark }
+    ensures { (mark : _) × F.post work mark result }
+{
+    work(Mark::new())
+}
 
-pub type IdentifiedFile = FileToken<AlreadyIdentified>;
+impl<'id> Mark<'id> {
+    pub(crate) fn new() -> Mark<'id> {
+        Mark { brand: PhantomData }
+    }
 
-impl<S> FileToken<S> {
-    pub(crate) fn new(number: usize) -> FileToken<S>
+    pub(crate) fn brand(self) -> Brand<'id> {
+        self.brand
+    }
+}
+
+pub struct FileToken<'id, S> {
+    number: usize,
+    stands: PhantomData<S>,
+    brand: Brand<'id>,
+}
+
+pub type NamedFile<'id> = FileToken<'id, OnlyNamed>;
+
+pub type IdentifiedFile<'id> = FileToken<'id, AlreadyIdentified>;
+
+impl<'id, S> FileToken<'id, S> {
+    pub(crate) fn new(number: usize) -> FileToken<'id, S>
         ensures { result.number ≡ number }
     {
         FileToken {
             number,
             stands: PhantomData,
+            brand: PhantomData,
         }
     }
 
@@ -36,17 +65,21 @@ impl<S> FileToken<S> {
 
     // The number alone: the token is given up.
     pub(crate) fn into_number(self) -> usize
-        ensures { result ≡ self.number }
+        ensures { result ≡ self.entry.number }
     {
-        let FileToken { number, stands: _ } = self;
+        let FileToken {
+            number,
+            stands: _,
+            brand: _,
+        } = self;
         number
     }
 }
 
-impl FileToken<OnlyNamed> {
+impl<'id> FileToken<'id, OnlyNamed> {
     // The token of the same file, once it is identified.
-    pub(crate) fn into_identified(self) -> IdentifiedFile
-        ensures { result.number ≡ self.number }
+    pub(crate) fn into_identified(self) -> IdentifiedFile<'id>
+        ensures { result.number ≡ self.entry.number }
     {
         FileToken::new(self.into_number())
     }

@@ -13,5 +13,5 @@ pub returns-clause-follows : goal.returns-clause-follows
 returns-clause-follows g c =
     let m = g.M.Measure in
     let was = c.args.self.now in
-    continues m was (record { register = was.register; entities = was.entities; contracts = c.add.new.self; files = was.files }) (AddContract c.args.text.now) (contract_answer c.add.result)
+    continues m was (record was { contracts = c.add.new.self }) (AddContract c.args.text.now) (contract_answer c.add.result)
     (contract_step m (book_in was) was.register.total c.args.text.now c.add.result c.add.new.self c.add.ensures.told c.add.ensures.list)

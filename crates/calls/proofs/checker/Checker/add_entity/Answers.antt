@@ -9,5 +9,5 @@ pub returns : goal.returns
 returns g c =
     let m = g.M.Measure in
     let was = c.args.self.now in
-    continues m was (record { register = was.register; entities = c.add.new.self; contracts = was.contracts; files = was.files }) (AddEntity c.args.code.now) (entity_answer c.add.result)
+    continues m was (record was { entities = c.add.new.self }) (AddEntity c.args.code.now) (entity_answer c.add.result)
     (entity_step m (book_in was) was.register.total c.args.code.now c.add.result c.add.new.self c.add.ensures.told c.add.ensures.list)

@@ -16,7 +16,7 @@ returns g c =
     let was = c.args.self.now in
     let named = c.name_next in
     let files = was.files.files in
-    let is : Checker g.row.S.Denot g.row.M.Denot = record { register = was.register; entities = was.entities; contracts = was.contracts; files = named.new.self } in
+    let is : Checker g.row.S.Denot g.row.M.Denot = record was { files = named.new.self } in
     let so = named_so m was is (NameFile c.args.name.now) (had_memory named.result) (naming_answer named.result) c.of_naming.result c.of_naming.ensures.answer
     (λ had. continues m was is (NameFile c.args.name.now) (naming_answer named.result)
     (naming_step m (book_in was) was.register.total c.args.name.now named.result (named.new.self.files) had named.ensures.told named.ensures.list))

@@ -37,7 +37,7 @@ returns-in-Err-clause-tried g c =
     let e = c.in-Err.ensures in
     let fault = c.in-Err.fault in
     let was = book_in c.args.self.now in
-    let is = book_in {S = g.row.S.Denot} (record { register = c.judge.new.self; entities = c.args.self.now.entities; contracts = c.args.self.now.contracts; files = c.args.self.now.files }) in
+    let is = book_in {S = g.row.S.Denot} (let was = c.args.self.now in record was { register = c.judge.new.self }) in
     let offset : start (act_field fault) (fields c.args.line.now) ≡ c.field_offset.result = ap (λ n. start n (fields c.args.line.now)) (sym c.field.ensures) ∙ sym c.field_offset.ensures in
     subst (λ at. Tried m was c.args.self.now.register.total c.args.number c.args.line.now (Refused (act_number fault) (act_field fault) at) is c.judge.new.self.total) offset
     (lives_decide m was is c.args.self.now.register.total c.judge.new.self.total c.args.number c.args.line.now

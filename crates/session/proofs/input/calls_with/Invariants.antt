@@ -4,7 +4,7 @@ use Rattle.calls.specs.Said.{calls_said}
 use Rattle.session.specs.Held.{in_hand}
 use Rattle.session.proofs.Giving.{Given}
 use Rattle.session.proofs.Measures.{both_totals}
-use Rattle.session.proofs.input.calls_of_input.Given as goal
+use Rattle.session.proofs.input.calls_with.Given as goal
 
 abbrev pub invariant-loop-line : goal.invariant-loop-line
 invariant-loop-line g l =

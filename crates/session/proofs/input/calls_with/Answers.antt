@@ -4,8 +4,8 @@ use Rattle.session.specs.Session.{call_of_line, listed}
 use Rattle.session.specs.Held.{in_hand, Answers}
 use Rattle.session.proofs.Giving.{Given, given_line}
 use Rattle.session.proofs.Measures.{both_totals}
-use Rattle.session.proofs.input.calls_of_input.Goals as goal
-use Rattle.session.proofs.input.calls_of_input.Goals.{in-Ok, in-Err}
+use Rattle.session.proofs.input.calls_with.Goals as goal
+use Rattle.session.proofs.input.calls_with.Goals.{in-Ok, in-Err}
 
 pub loop-line-preserved : goal.loop-line-preserved
 loop-line-preserved g c = λ capacity f.
