@@ -28,16 +28,16 @@ abbrev pub empty_book : ℕ → Book
 empty_book n = record { capacity = n; entities = []; contracts = []; files = []; lives = [] }
 
 abbrev pub with_entities : Book → List Bytes → Book
-with_entities b es = record { capacity = b.capacity; entities = es; contracts = b.contracts; files = b.files; lives = b.lives }
+with_entities b es = record b { entities = es }
 
 abbrev pub with_contracts : Book → List Contract → Book
-with_contracts b cs = record { capacity = b.capacity; entities = b.entities; contracts = cs; files = b.files; lives = b.lives }
+with_contracts b cs = record b { contracts = cs }
 
 abbrev pub with_files : Book → List File → Book
-with_files b fs = record { capacity = b.capacity; entities = b.entities; contracts = b.contracts; files = fs; lives = b.lives }
+with_files b fs = record b { files = fs }
 
 abbrev pub with_lives : Book → Lives → Book
-with_lives b ls = record { capacity = b.capacity; entities = b.entities; contracts = b.contracts; files = b.files; lives = ls }
+with_lives b ls = record b { lives = ls }
 
 -- ---- Calls and answers
 
@@ -155,20 +155,12 @@ done b (Identify n bs) = put_file b n (at_stage Identified (file_of b.files n))
 done b (Withdraw n) = put_file b n (at_stage Ended (file_of b.files n))
 done b (Close n) = put_file b n (at_stage Ended (file_of b.files n))
 done b (Judge n bs) = put_file (with_lives b (accepted_line (told_by b.contracts bs) b.lives)) n (one_accepted (file_of b.files n))
-done b (LookUp bs) = b
-done b Total = b
+done b _ = b
 
 -- and after one that is refused: a line counts in its file, and nothing else changes
 abbrev pub undone : Book → Call → Book
-undone b (AddEntity bs) = b
-undone b (AddContract bs) = b
-undone b (NameFile bs) = b
-undone b (Identify n bs) = b
-undone b (Withdraw n) = b
-undone b (Close n) = b
 undone b (Judge n bs) = put_file b n (refused_in (file_of b.files n))
-undone b (LookUp bs) = b
-undone b Total = b
+undone b _ = b
 
 abbrev pub changed : Book → Call → Option (ℕ × ℕ) → Book
 changed b c None = done b c
@@ -185,26 +177,19 @@ text_of (AddEntity bs) = bs
 text_of (AddContract bs) = bs
 text_of (NameFile bs) = bs
 text_of (Identify n bs) = bs
-text_of (Withdraw n) = []
-text_of (Close n) = []
 text_of (Judge n bs) = bs
 text_of (LookUp bs) = bs
-text_of Total = []
+text_of _ = []
 
 abbrev pub receipt : File → Answer
 receipt f = Receipt f.judged f.accepted f.refused
 
 -- the answer to a call that no row fits; the total itself is told apart (`totals` in Totals.antt)
 abbrev pub granted : Book → Call → Answer
-granted b (AddEntity bs) = Accepted
-granted b (AddContract bs) = Accepted
-granted b (NameFile bs) = Accepted
-granted b (Identify n bs) = Accepted
 granted b (Withdraw n) = receipt (file_of b.files n)
 granted b (Close n) = receipt (file_of b.files n)
-granted b (Judge n bs) = Accepted
 granted b (LookUp bs) = Found (look (key_of (told_by b.contracts bs)) b.lives)
-granted b Total = Accepted
+granted b _ = Accepted
 
 abbrev pub answered : Book → Call → Option (ℕ × ℕ) → Answer
 answered b c None = granted b c

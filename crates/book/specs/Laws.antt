@@ -14,7 +14,7 @@ use Rattle.life.specs.Parts.{KeyParts, LifeParts}
 use Rattle.life.specs.Keys.{same_key}
 use Rattle.life.specs.Lives.{Pair, look, Unique}
 use Rattle.life.specs.Rules.{is_error, is_cancel}
-use Rattle.book.specs.Book.{Book, empty_book, Call, AddEntity, AddContract, NameFile, Identify, Withdraw, Close, Judge, LookUp, Total, told_by, key_of, verdict, after, end}
+use Rattle.book.specs.Book.{Book, empty_book, Call, Judge, told_by, key_of, verdict, after, end}
 
 -- ---- The log
 
@@ -24,15 +24,8 @@ pub data Subject : Type 0 where
   no_line : Subject
 
 abbrev pub subject : List Contract → Call → Subject
-subject cs (AddEntity bs) = no_line
-subject cs (AddContract bs) = no_line
-subject cs (NameFile bs) = no_line
-subject cs (Identify n bs) = no_line
-subject cs (Withdraw n) = no_line
-subject cs (Close n) = no_line
 subject cs (Judge n bs) = a_line (key_of (told_by cs bs)) (told_by cs bs).says
-subject cs (LookUp bs) = no_line
-subject cs Total = no_line
+subject cs _ = no_line
 
 -- a call, the line that it judged, and the row that refused it, if one did
 pub record Entry : Type 0 where

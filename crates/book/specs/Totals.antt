@@ -4,19 +4,12 @@ use Rattle.life.specs.Parts.{KeyParts, LifeParts}
 use Rattle.life.specs.Lives.{Lives, Unique, Same}
 use Rattle.measure.specs.Group.{Group}
 use Rattle.measure.specs.Totals.{total_of}
-use Rattle.book.specs.Book.{Book, Call, AddEntity, AddContract, NameFile, Identify, Withdraw, Close, Judge, LookUp, Total, after}
+use Rattle.book.specs.Book.{Book, Call, Total, after}
 
 -- a call for the total is told it, before the totals told later
 abbrev pub telling : {V : Type 0} → V → Call → List V → List V
-telling t (AddEntity bs) later = later
-telling t (AddContract bs) later = later
-telling t (NameFile bs) later = later
-telling t (Identify n bs) later = later
-telling t (Withdraw n) later = later
-telling t (Close n) later = later
-telling t (Judge n bs) later = later
-telling t (LookUp bs) later = later
 telling t Total later = t ∷ later
+telling t _ later = later
 
 -- the totals that a run is told, in their order: what the open lives weigh together at each call for the total
 abbrev pub totals : {V : Type 0} → V → (V → V → V) → (KeyParts → LifeParts → V) → Book → List Call → List V

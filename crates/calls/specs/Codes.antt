@@ -30,10 +30,8 @@ kind_of bs = (report (fields bs)).kind
 
 -- the code that an answer should have
 abbrev pub code_due : Kind → book.Answer → Option Bytes
-code_due kind book.Accepted = None
 code_due kind (book.Refused number field at) = agency_code kind number
-code_due kind (book.Receipt judged accepted refused) = None
-code_due kind (book.Found life) = None
+code_due kind _ = None
 
 -- the code that it has
 abbrev pub code_in : {V F : Type 0} → (F → Option Bytes) → Result V F → Option Bytes
@@ -44,15 +42,9 @@ code_in code (Err e) = code e
 
 -- what the line of a call tells of; the codes of calls without a line are the same for both kinds
 abbrev pub kind_in : book.Call → Kind
-kind_in (book.AddEntity bs) = Order
-kind_in (book.AddContract bs) = Order
-kind_in (book.NameFile bs) = Order
-kind_in (book.Identify n bs) = Order
-kind_in (book.Withdraw n) = Order
-kind_in (book.Close n) = Order
 kind_in (book.Judge n bs) = kind_of bs
 kind_in (book.LookUp bs) = kind_of bs
-kind_in book.Total = Order
+kind_in _ = Order
 
 abbrev pub reply_code_due : {V : Type 0} → Kind → ReplyParts V → Option Bytes
 reply_code_due kind (Answering a) = code_due kind a

@@ -43,29 +43,21 @@ fault_number (fault.Judge e) = judge_number e
 fault_number (fault.LookUp e) = line_fault_number e
 
 abbrev pub fault_field : Fault → ℕ
-fault_field (fault.Entity e) = 0
 fault_field (fault.Contract e) = contract_fault_field e
-fault_field (fault.Name e) = 0
-fault_field (fault.Identify e) = 0
-fault_field (fault.Place e) = 0
 fault_field (fault.Judge e) = judge_field e
 fault_field (fault.LookUp e) = line_fault_field e
+fault_field _ = 0
 
 abbrev pub fault_offset : Fault → ℕ
-fault_offset (fault.Entity e) = 0
 fault_offset (fault.Contract e) = contract_fault_offset e
-fault_offset (fault.Name e) = 0
-fault_offset (fault.Identify e) = 0
-fault_offset (fault.Place e) = 0
 fault_offset (fault.Judge e) = judge_offset e
 fault_offset (fault.LookUp e) = line_fault_offset e
+fault_offset _ = 0
 
 -- the Agency's code
 abbrev pub fault_code : Fault → Option Bytes
-fault_code (fault.Entity e) = None
 fault_code (fault.Contract e) = contract_fault_code e
-fault_code (fault.Name e) = None
 fault_code (fault.Identify e) = identify_code e
-fault_code (fault.Place e) = None
 fault_code (fault.Judge e) = judge_code e
 fault_code (fault.LookUp e) = line_fault_code e
+fault_code _ = None

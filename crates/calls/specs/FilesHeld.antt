@@ -30,4 +30,4 @@ pub record Filed : Type 0 where
 
 -- other files in the same places
 abbrev pub with_files : List File → Filed → Filed
-with_files files filed = record { files = files; places = filed.places }
+with_files files filed = record filed { files = files }

@@ -112,15 +112,8 @@ reply_said (Totalled t) = Totalling t
 
 -- a call for the total is told it; every other is answered
 abbrev pub replied : {V : Type 0} → book.Call → book.Answer → V → ReplyParts V
-replied (book.AddEntity bs) a t = Answering a
-replied (book.AddContract bs) a t = Answering a
-replied (book.NameFile bs) a t = Answering a
-replied (book.Identify n bs) a t = Answering a
-replied (book.Withdraw n) a t = Answering a
-replied (book.Close n) a t = Answering a
-replied (book.Judge n bs) a t = Answering a
-replied (book.LookUp bs) a t = Answering a
 replied book.Total a t = Totalling t
+replied _ a t = Answering a
 
 -- what a book replies in a measure
 abbrev pub reply : {V : Type 0} → Ghosts V → book.Book → book.Call → ReplyParts V

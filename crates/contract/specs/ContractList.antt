@@ -52,19 +52,11 @@ offered bs = contract_said (fields bs)
 
 -- options need a style, unless they are on a spot
 abbrev pub needs_style : ContractType → Bool
-needs_style Au = false
-needs_style Co = false
-needs_style Fu = false
-needs_style Fw = false
 needs_style Op = true
 needs_style OpFu = true
 needs_style OpFw = true
-needs_style OpSp = false
 needs_style OpSw = true
-needs_style Ot = false
-needs_style Sp = false
-needs_style Sw = false
-needs_style Swg = false
+needs_style _ = false
 
 -- a text stands twice
 abbrev pub repeats : List Bytes → Bool

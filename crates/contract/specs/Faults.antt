@@ -32,11 +32,9 @@ contract_fault_offset (NameTwice at) = at
 contract_fault_offset Full = 0
 
 abbrev pub contract_fault_code : ContractFault → Option Bytes
-contract_fault_code (Form e) = None
-contract_fault_code Listed = None
 contract_fault_code (Style at) = Some (codes "R10D0S0PTM")
 contract_fault_code (NameTwice at) = Some (codes "AT1F25E1")
-contract_fault_code Full = None
+contract_fault_code _ = None
 
 abbrev pub contract_refusal : ContractFault → Refusal
 contract_refusal e = Refused (contract_fault_number e) (contract_fault_field e) (contract_fault_offset e)

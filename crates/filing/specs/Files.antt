@@ -20,7 +20,7 @@ abbrev pub named_file : Bytes → File
 named_file code = record { stage = Named; entity = code; judged = 0; accepted = 0; refused = 0 }
 
 abbrev pub at_stage : Stage → File → File
-at_stage s f = record { stage = s; entity = f.entity; judged = f.judged; accepted = f.accepted; refused = f.refused }
+at_stage s f = record f { stage = s }
 
 -- what stands where no file does: nothing can be done with it
 abbrev pub no_file : File
@@ -32,13 +32,11 @@ file_of fs n = slice_index_or fs n no_file
 
 abbrev pub only_named : Stage → Bool
 only_named Named = true
-only_named Identified = false
-only_named Ended = false
+only_named _ = false
 
 abbrev pub identified : Stage → Bool
-identified Named = false
 identified Identified = true
-identified Ended = false
+identified _ = false
 
 -- the most lines judged in a file
 abbrev pub judged_limit : ℕ
@@ -70,8 +68,8 @@ taking_rows =
 
 -- one more line judged and accepted
 abbrev pub one_accepted : File → File
-one_accepted f = record { stage = f.stage; entity = f.entity; judged = suc f.judged; accepted = suc f.accepted; refused = f.refused }
+one_accepted f = record f { judged = suc f.judged; accepted = suc f.accepted }
 
 -- one more line judged and refused
 abbrev pub one_refused : File → File
-one_refused f = record { stage = f.stage; entity = f.entity; judged = suc f.judged; accepted = f.accepted; refused = suc f.refused }
+one_refused f = record f { judged = suc f.judged; refused = suc f.refused }

@@ -17,12 +17,8 @@ life_number NoneToStrike = 45
 life_number Earlier = 46
 
 abbrev pub life_field : LifeFault → ℕ
-life_field Standing = 7
-life_field NotOpen = 7
-life_field NoneToCancel = 7
-life_field CancelledBefore = 7
-life_field NoneToStrike = 7
 life_field Earlier = 8
+life_field _ = 7
 
 abbrev pub by_kind : {X : Type 0} → X → X → Kind → X
 by_kind o t Order = o
@@ -30,12 +26,9 @@ by_kind o t Trade = t
 
 -- the Agency's code, for an order or a trade
 abbrev pub life_code : Kind → LifeFault → Option Bytes
-life_code k Standing = None
-life_code k NotOpen = None
-life_code k NoneToCancel = None
 life_code k CancelledBefore = Some (by_kind (codes "R2ODOICIMPIUQC") (codes "R1CDUTIDRCIMPDTUQC") k)
 life_code k NoneToStrike = Some (by_kind (codes "R1LIATORERR") (codes "R1LIATTRERR") k)
-life_code k Earlier = None
+life_code k _ = None
 
 abbrev pub table_number : TableFault → ℕ
 table_number Length = 72

@@ -71,8 +71,8 @@ new_life t q p = record { in_state = Open; at_time = t; with_quantity = q; with_
 
 -- a Modify replaces time, quantity and price
 abbrev pub modified : ℕ → ℕ → Option ℤ → LifeParts → LifeParts
-modified t q p l = record { in_state = l.in_state; at_time = t; with_quantity = q; with_price = p }
+modified t q p l = record l { at_time = t; with_quantity = q; with_price = p }
 
 -- a Cancel replaces state and time
 abbrev pub cancelled : ℕ → LifeParts → LifeParts
-cancelled t l = record { in_state = Cancelled; at_time = t; with_quantity = l.with_quantity; with_price = l.with_price }
+cancelled t l = record l { in_state = Cancelled; at_time = t }

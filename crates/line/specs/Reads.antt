@@ -39,25 +39,16 @@ bytes_of (signed v bs at) = bs
 bytes_of (names ns bs at) = bs
 
 abbrev pub number_of : Seen → ℕ
-number_of (blank at) = 0
-number_of (word bs at) = 0
 number_of (number v bs at) = v
-number_of (signed v bs at) = 0
-number_of (names ns bs at) = 0
+number_of _ = 0
 
 abbrev pub signed_of : Seen → Option ℤ
-signed_of (blank at) = None
-signed_of (word bs at) = None
-signed_of (number v bs at) = None
 signed_of (signed v bs at) = Some v
-signed_of (names ns bs at) = None
+signed_of _ = None
 
 abbrev pub names_of : Seen → List Bytes
-names_of (blank at) = []
-names_of (word bs at) = []
-names_of (number v bs at) = []
-names_of (signed v bs at) = []
 names_of (names ns bs at) = ns
+names_of _ = []
 
 -- ---- Readings
 

@@ -20,19 +20,16 @@ refusal_number (Refused e) = fault_number e
 
 -- 0 for none
 abbrev pub refusal_field : Refusal → ℕ
-refusal_field (Unread e) = 0
-refusal_field OutOfPlace = 0
 refusal_field (Refused e) = fault_field e
+refusal_field _ = 0
 
 abbrev pub refusal_offset : Refusal → ℕ
-refusal_offset (Unread e) = 0
-refusal_offset OutOfPlace = 0
 refusal_offset (Refused e) = fault_offset e
+refusal_offset _ = 0
 
 abbrev pub refusal_code : Refusal → Option Bytes
-refusal_code (Unread e) = None
-refusal_code OutOfPlace = None
 refusal_code (Refused e) = fault_code e
+refusal_code _ = None
 
 -- ---- Texts
 

@@ -7,7 +7,7 @@ use Rattle.commands.specs.Commands as command
 use Rattle.text.specs.declared.words.Kind.{Kind}
 use Rattle.text.specs.declared.words.Kind.TheVariants.{Order}
 use Rattle.calls.specs.Codes.{kind_of}
-use Rattle.book.specs.Book.{Book, Call, AddEntity, AddContract, NameFile, Identify, Withdraw, Close, Judge, LookUp, Total, Answer, Refused, verdict, after, answer}
+use Rattle.book.specs.Book.{Book, Call, AddEntity, AddContract, NameFile, Identify, Withdraw, Close, Judge, Answer, Refused, verdict, after, answer}
 
 -- ---- The file in hand
 
@@ -21,20 +21,17 @@ pub data InHand : Type 0 where
 -- a file is named where none is in hand
 abbrev pub naming : InHand → Bytes → Option Call
 naming NoFile name = Some (NameFile name)
-naming (OnlyNamed n) name = None
-naming (Identified n) name = None
+naming _ name = None
 
 -- and identified where it is only named
 abbrev pub identifying : InHand → Bytes → Option Call
-identifying NoFile code = None
 identifying (OnlyNamed n) code = Some (Identify n code)
-identifying (Identified n) code = None
+identifying _ code = None
 
 -- lines are judged in an identified file
 abbrev pub judging : InHand → Bytes → Option Call
-judging NoFile line = None
-judging (OnlyNamed n) line = None
 judging (Identified n) line = Some (Judge n line)
+judging _ line = None
 
 -- a file that is only named is withdrawn, and an identified one closed
 abbrev pub ending : InHand → Option Call
@@ -50,8 +47,7 @@ call_by h (command.NameFile name) = naming h name
 call_by h (command.Identify code) = identifying h code
 call_by h (command.Judge line) = judging h line
 call_by h command.EndFile = ending h
-call_by h command.Positions = None
-call_by h command.CheckWord = None
+call_by h _ = None
 
 -- a line is a command where no row refuses it
 abbrev pub command_in : Bytes → Option CommandParts
@@ -62,14 +58,8 @@ call_of_line h line = then (command_in line) (call_by h)
 
 -- what a command tells of: an order or a trade; commands without a report line have the same codes for both
 abbrev pub kind_asked : CommandParts → Kind
-kind_asked (command.AddEntity code) = Order
-kind_asked (command.AddContract text) = Order
-kind_asked (command.NameFile name) = Order
-kind_asked (command.Identify code) = Order
 kind_asked (command.Judge line) = kind_of line
-kind_asked command.EndFile = Order
-kind_asked command.Positions = Order
-kind_asked command.CheckWord = Order
+kind_asked _ = Order
 
 abbrev pub kind_of_command : Option CommandParts → Kind
 kind_of_command None = Order
@@ -85,15 +75,11 @@ abbrev pub takes_in_hand : Book → InHand → Call → InHand → InHand
 takes_in_hand b h c next = cond (is_some (verdict b c)) h next
 
 abbrev pub in_hand_after_call : Book → InHand → Call → InHand
-in_hand_after_call b h (AddEntity bs) = h
-in_hand_after_call b h (AddContract bs) = h
 in_hand_after_call b h (NameFile bs) = takes_in_hand b h (NameFile bs) (OnlyNamed (length b.files))
 in_hand_after_call b h (Identify n bs) = takes_in_hand b h (Identify n bs) (Identified n)
 in_hand_after_call b h (Withdraw n) = NoFile
 in_hand_after_call b h (Close n) = NoFile
-in_hand_after_call b h (Judge n bs) = h
-in_hand_after_call b h (LookUp bs) = h
-in_hand_after_call b h Total = h
+in_hand_after_call b h _ = h
 
 abbrev pub in_hand_after : Book → InHand → Option Call → InHand
 in_hand_after b h None = h
