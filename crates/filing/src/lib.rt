@@ -1,4 +1,5 @@
-// Reporting entities, file names, and the files that lines are judged in.
+//! Reporting entities, and the names of files. The rules of files stand in `specs/Files.antt`; the
+//! list of files is in the crate `calls`.
 #![tactic(auto)]
 
 mod entities;
