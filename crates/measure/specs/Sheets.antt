@@ -56,6 +56,10 @@ abbrev pub residue : ℤ → ℕ
 residue (pos n) = n % 2 ^ 64
 residue (negsuc n) = (2 ^ 64 - suc n % 2 ^ 64) % 2 ^ 64
 
+-- the same as a signed number: what a sum of 64 bits shows of it
+abbrev pub wrapped : ℤ → ℤ
+wrapped z = to_z w64 (residue z)
+
 -- what a life brings to each position
 abbrev pub sheet_weight : KeyParts → LifeParts → Sheet
 sheet_weight key life = sheet (λ n. residue (brought n key life))

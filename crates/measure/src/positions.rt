@@ -6,7 +6,7 @@ ghost use Rattle.life.specs.declared.life.Life.{Life};
 ghost use Rattle.measure.specs.Laws.{sheet_group};
 ghost use Rattle.life.specs.Lives.{Lives, plain};
 ghost use Rattle.measure.specs.Positions.{Within, traded, true_position};
-ghost use Rattle.measure.specs.Sheets.{position_of, no_sheet, added, negated, residue, sheet_weight, one_cell};
+ghost use Rattle.measure.specs.Sheets.{position_of, wrapped, no_sheet, added, negated, residue, sheet_weight, one_cell};
 ghost use Rattle.measure.specs.Totals.{total_in};
 
 use crate::measure::Measure;
@@ -15,9 +15,11 @@ use life::{CONTRACTS, Key, Life};
 use text::{Kind, Side};
 
 impl Sheet {
-    // The position of a contract; 0 for a number over 63. On a sheet that is the total of at most 65,535 lives it is the true sum.
+    /// The position of a contract, in hundred-thousandths; 0 for a number over 63. On a sheet that is
+    /// the total of some lives it is their sum modulo 2^64, and of at most 65,535 lives the true sum.
     pub fn position(&self, contract: u8) -> i64
         ensures shown { result ≡ position_of self.now contract }
+        ensures wraps { (ps : Lives) → AllByRecursion Within ps → self.now ≡ total_in ⟦<Sheet as Measure>⟧ ps → result ≡ wrapped (true_position contract ps) }
         ensures exact { (ps : Lives) → length ps ≤ 65535 → AllByRecursion Within ps → self.now ≡ total_in ⟦<Sheet as Measure>⟧ ps → result ≡ true_position contract ps }
         ensures kept { (ps : List (Key × Life)) → length ps ≤ 65535 → self.now ≡ total_in ⟦<Sheet as Measure>⟧ (plain ps) → result ≡ true_position contract (plain ps) }
     {
