@@ -1,6 +1,6 @@
 -- Each fault has the Agency's code of its number.
-use Rattle.std.proofs.Common.{◌≡◌, ℕ, ◌+◌, ◌<◌, ◌≤◌, Bool, true, false, cond, eqb, List, [], ◌∷◌, ◌++◌, IsErrAnd, Some, None, Ok, Err, Option, Result, sym, refl, ap, ◌∙◌, subst, rules, arith}
-use Rattle.std.specs.List.{AllByRecursion}
+use Rattle.std.proofs.Common.{◌≡◌, ℕ, ◌+◌, ◌<◌, ◌≤◌, Bool, true, false, cond, eqb, List, [], ◌∷◌, ◌++◌, IsErrAnd, IfErr, Some, None, Ok, Err, Option, Result, sym, refl, ap, ◌∙◌, subst, rules, arith}
+use Rattle.std.specs.List.{AllByRecursion, AllZip}
 use Rattle.std.proofs.lemmas.Bool.{ne_eqb}
 use Rattle.std.proofs.lemmas.Result.{err_from_is_err_and}
 use Rattle.text.specs.Bytes.{Bytes}
@@ -38,13 +38,16 @@ use Rattle.calls.specs.declared.faults.JudgeFault.{JudgeFault}
 use Rattle.calls.specs.declared.faults.JudgeFault.TheVariants as fault
 use Rattle.book.specs.Book.{Answer, told_by, looking_rows}
 use Rattle.book.specs.Book as book
+use Rattle.calls.specs.declared.answer.Given.{Given}
+use Rattle.calls.specs.declared.answer.Given.TheVariants.{Accepted}
 use Rattle.calls.specs.declared.answer.Reply.{Reply}
+use Rattle.calls.specs.declared.fault.Fault.{Fault}
+use Rattle.calls.specs.declared.fault.Fault.TheVariants as whole
 use Rattle.calls.specs.declared.answer.Reply.TheVariants.{Answered}
 use Rattle.calls.specs.declared.call.Call.{Call}
-use Rattle.calls.specs.Codes.{agency_code, kind_of, code_due, code_in, kind_in, reply_code, reply_code_due}
+use Rattle.calls.specs.Codes.{agency_code, kind_of, code_due, code_in, kind_in, reply_code, reply_code_due, IsOfKind, TellsKind, ReplyTellsKind}
 use Rattle.calls.specs.Faults.{judge_code, fault_code}
-use Rattle.calls.specs.Runs.{HaveCodes}
-use Rattle.calls.specs.Said.{Spoken, call_said, answer_said, reply_said, entity_answer, contract_answer, identify_answer, ending_answer, judge_answer}
+use Rattle.calls.specs.Said.{Spoken, answer_from, call_said, answer_said, reply_said, entity_answer, contract_answer, identify_answer, ending_answer, judge_answer}
 
 -- ---- Faults of calls on the lists and on files
 
@@ -142,7 +145,7 @@ by_line k cs bs r x h e =
     subst (λ y. code_in judge_code y ≡ code_due k (judge_answer y)) (sym (p.1 ∙ ap Err p.2)) (of_lines k cs bs x e)
 
 -- a key is of what its line tells of
-claimed_kind : (cs : List Contract) (bs : Bytes) (c : Claim) → claim_in (Ok c) ≡ claiming cs bs → c.key.kind ≡ kind_of bs
+pub claimed_kind : (cs : List Contract) (bs : Bytes) (c : Claim) → claim_in (Ok c) ≡ claiming cs bs → c.key.kind ≡ kind_of bs
 claimed_kind cs bs c e =
     ap (λ q. q.of_key.of_kind) (none_fitted bs (claimed_by (told_by cs bs)) (claim_of c) (first_fit looking_rows (bs, told_by cs bs)) e).1
 
@@ -160,18 +163,31 @@ coded {call = call} {a = a} asks given says code =
     ∙ ap (code_due (kind_in (call_said call))) (sym says ∙ sym (ap answer_said given))
     ∙ ap (λ x. code_due (kind_in (call_said x)) (answer_said a)) (sym asks)
 
+-- the answer of a call whose fault is none of a line's action tells of no kind
+pub kind_untold : {V E : Type 0} (k : Kind) (given : V → Given) (fault : E → Fault) → ((e : E) → TellsKind k (Err (fault e))) → {a : Spoken} (r : Result V E) → a ≡ answer_from given fault r → TellsKind k a
+kind_untold k given fault none (Ok v) e = subst (TellsKind k) (sym e) tt
+kind_untold k given fault none (Err x) e = subst (TellsKind k) (sym e) (none x)
+
+-- and that of judging the kind that the refusal tells
+pub kind_told : (k : Kind) {a : Spoken} (r : Result (Unit {0}) JudgeFault) → a ≡ answer_from (λ _. Accepted) whole.Judge r → IfErr r (IsOfKind k) → TellsKind k a
+kind_told k (Ok v) e h = subst (TellsKind k) (sym e) tt
+kind_told k (Err x) e h = subst (TellsKind k) (sym e) h
+
 -- ---- A list of calls
 
-one_more : (cs : List book.Call) (xs : List Spoken) (c : book.Call) (x : Spoken) → HaveCodes cs xs → code_in fault_code x ≡ code_due (kind_in c) (answer_said x) → HaveCodes (cs ++ c ∷ []) (xs ++ x ∷ [])
-one_more [] [] c x h e = (e, tt)
-one_more [] (y ∷ xs) c x h e = absurd h
-one_more (d ∷ cs) [] c x h e = absurd h
-one_more (d ∷ cs) (y ∷ xs) c x h e = (h.0, one_more cs xs c x h.1 e)
+one_more : (P : book.Call → Spoken → Type 0) (cs : List book.Call) (xs : List Spoken) (c : book.Call) (x : Spoken) → AllZip P cs xs → P c x → AllZip P (cs ++ c ∷ []) (xs ++ x ∷ [])
+one_more P [] [] c x h e = (e, tt)
+one_more P [] (y ∷ xs) c x h e = absurd h
+one_more P (d ∷ cs) [] c x h e = absurd h
+one_more P (d ∷ cs) (y ∷ xs) c x h e = (h.0, one_more P cs xs c x h.1 e)
 
--- answers that go on with one
-pub codes_more : (cs : List book.Call) (xs next : List Spoken) (c : book.Call) (x : Spoken) → next ≡ xs ++ x ∷ [] → HaveCodes cs xs → code_in fault_code x ≡ code_due (kind_in c) (answer_said x) → HaveCodes (cs ++ c ∷ []) next
-codes_more cs xs next c x l h e = subst (HaveCodes (cs ++ c ∷ [])) (sym l) (one_more cs xs c x h e)
+-- what holds of each call and its answer, of a list that goes on with one
+pub each_more : (P : book.Call → Spoken → Type 0) (cs : List book.Call) (xs next : List Spoken) (c : book.Call) (x : Spoken) → next ≡ xs ++ x ∷ [] → AllZip P cs xs → P c x → AllZip P (cs ++ c ∷ []) next
+each_more P cs xs next c x l h e = subst (AllZip P (cs ++ c ∷ [])) (sym l) (one_more P cs xs c x h e)
 
 -- what a reply that is an answer tells of its code
 pub answered_code : {M : Type 0} (k : Kind) (r : Reply M) (x : Spoken) → r ≡ Answered x → reply_code r ≡ reply_code_due k (reply_said r) → code_in fault_code x ≡ code_due k (answer_said x)
 answered_code k r x is e = subst (λ y. reply_code y ≡ reply_code_due k (reply_said y)) is e
+
+pub answered_kind : {M : Type 0} (k : Kind) (r : Reply M) (x : Spoken) → r ≡ Answered x → ReplyTellsKind k r → TellsKind k x
+answered_kind k r x is h = subst (ReplyTellsKind k) is h

@@ -1,5 +1,5 @@
 -- The Agency's code of a refusal: by its number, and for 44 and 45 by what the line tells of, an order or a trade.
-use Rattle.std.specs.Prelude.{ℕ, cond, Some, None, Ok, Err, codes, Option, Result, ◌==◌}
+use Rattle.std.specs.Prelude.{◌≡◌, ⊤, ℕ, cond, Some, None, Ok, Err, codes, Option, Result, ◌==◌}
 use Rattle.text.specs.Bytes.{Bytes}
 use Rattle.text.specs.Rows.{fields}
 use Rattle.text.specs.declared.words.Kind.{Kind}
@@ -9,8 +9,11 @@ use Rattle.life.specs.Faults.{by_kind}
 use Rattle.book.specs.Book as book
 use Rattle.calls.specs.declared.answer.Reply.{Reply}
 use Rattle.calls.specs.declared.answer.Reply.TheVariants.{Answered, Total}
+use Rattle.calls.specs.declared.fault.Fault.TheVariants as fault
+use Rattle.calls.specs.declared.faults.JudgeFault.{JudgeFault}
+use Rattle.calls.specs.declared.faults.JudgeFault.TheVariants.{Act}
 use Rattle.calls.specs.Faults.{fault_code}
-use Rattle.calls.specs.Said.{ReplyParts, Answering, Totalling}
+use Rattle.calls.specs.Said.{Spoken, ReplyParts, Answering, Totalling}
 
 -- the published codes
 abbrev pub agency_code : Kind → ℕ → Option Bytes
@@ -38,6 +41,11 @@ abbrev pub code_in : {V F : Type 0} → (F → Option Bytes) → Result V F → 
 code_in code (Ok v) = None
 code_in code (Err e) = code e
 
+-- the refusal of an action tells of the kind
+abbrev pub IsOfKind : Kind → JudgeFault → Type 0
+IsOfKind kind (Act e k at) = k ≡ kind
+IsOfKind kind _ = ⊤
+
 -- ---- Any call
 
 -- what the line of a call tells of; the codes of calls without a line are the same for both kinds
@@ -53,3 +61,12 @@ reply_code_due kind (Totalling t) = None
 abbrev pub reply_code : {M : Type 0} → Reply M → Option Bytes
 reply_code (Answered a) = code_in fault_code a
 reply_code (Total t) = None
+
+-- the refusal of an action, as the answer to a call
+abbrev pub TellsKind : Kind → Spoken → Type 0
+TellsKind kind (Err (fault.Judge e)) = IsOfKind kind e
+TellsKind kind _ = ⊤
+
+abbrev pub ReplyTellsKind : {M : Type 0} → Kind → Reply M → Type 0
+ReplyTellsKind kind (Answered a) = TellsKind kind a
+ReplyTellsKind kind _ = ⊤

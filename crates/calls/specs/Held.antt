@@ -1,6 +1,6 @@
 -- What a checker holds, as a book; and the law over every history of calls that led to it.
 use Rattle.measure.specs.declared.measure.Measure.{Ghosts}
-use Rattle.std.specs.Prelude.{◌≡◌, ℕ, false, List, [], ◌∷◌, ◌++◌, None, slice_set}
+use Rattle.std.specs.Prelude.{◌≡◌, ℕ, ◌+◌, ◌≤◌, false, List, [], ◌∷◌, ◌++◌, length, None, slice_set}
 use Rattle.text.specs.Bytes.{Bytes}
 use Rattle.text.specs.Rows.{first_fit}
 use Rattle.filing.specs.Names.{naming_rows}
@@ -24,6 +24,18 @@ book_in c = record {
 -- the checker with one line more judged and refused in the file n, unless that takes none: all else of it is the same
 abbrev pub one_refused_in : {S M : Type 0} → Checker S M → ℕ → Checker S M
 one_refused_in c n = record c { files = with_files (slice_set c.files.files n (counted false (file_of c.files.files n))) c.files }
+
+-- places are reserved for so many more files: naming them wants no memory
+abbrev pub HasPlaces : {S M : Type 0} → Checker S M → ℕ → Type 0
+HasPlaces c more = length c.files.files + more ≤ c.files.places
+
+-- places that were reserved are still
+abbrev pub KeepsPlaces : {S M : Type 0} → Checker S M → Checker S M → Type 0
+KeepsPlaces was is = (more : ℕ) → HasPlaces was more → HasPlaces is more
+
+-- the checker with so many places for files in all: the rest of it is the same
+abbrev pub with_places : {S M : Type 0} → ℕ → Checker S M → Checker S M
+with_places n c = record c { files = record c.files { places = n } }
 
 -- the call names a file, and no row of naming refuses the name: the only call that may want memory
 abbrev pub NamesFile : Call → Type 0

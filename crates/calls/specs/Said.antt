@@ -63,6 +63,11 @@ answer_said (Err f) = book.Refused (fault_number f) (fault_field f) (fault_offse
 abbrev pub answers_said : List Spoken → List book.Answer
 answers_said = map answer_said
 
+-- the answer of any call: what it gives of a value, or its fault, kept whole
+abbrev pub answer_from : {V E : Type 0} → (V → Given) → (E → calls.Fault) → Result V E → Spoken
+answer_from given fault (Ok v) = Ok (given v)
+answer_from given fault (Err e) = Err (fault e)
+
 -- ---- The answers of each call; those with no field named have the field and the offset 0
 
 abbrev pub entity_answer : Result (Unit {0}) EntityFault → book.Answer

@@ -2,7 +2,7 @@
 ghost use Rattle.std.specs.Prelude.{◌≡◌, IfOk, OnErr};
 ghost use Rattle.book.specs.Book.{NameFile, Identify as IdentifyCall, Withdraw as WithdrawCall, Close as CloseCall};
 ghost use Rattle.text.specs.declared.words.Kind.{Kind};
-ghost use Rattle.calls.specs.Codes.{code_in, code_due, kind_in, reply_code, reply_code_due};
+ghost use Rattle.calls.specs.Codes.{code_in, code_due, kind_in, reply_code, reply_code_due, TellsKind, ReplyTellsKind};
 ghost use Rattle.calls.specs.Faults.{fault_code};
 ghost use Rattle.calls.specs.Held.{Continues, Replies, Stays, NamesFile};
 ghost use Rattle.calls.specs.Said.{call_said, answer_said, reply_said, identify_answer, ending_answer};
@@ -43,6 +43,7 @@ impl<'id, 's, S: Store, M: Measure> Checker<'id, 's, S, M> {
         ensures memory { OnErr result (Stays M.Measure self.old self.new) }
         ensures wanting { OnErr result (NamesFile (NameFile name.now)) }
         ensures code { IfOk result (λ answer. (kind : Kind) → code_in fault_code answer ≡ code_due kind (answer_said answer)) }
+        ensures kinds { IfOk result (λ answer. (kind : Kind) → TellsKind kind answer) }
     {
         of_naming(self.files.name_next(name))
     }
@@ -54,6 +55,7 @@ impl<'id, 's, S: Store, M: Measure> Checker<'id, 's, S, M> {
         ensures memory { OnErr result (Stays M.Measure self.old self.new) }
         ensures wanting { OnErr result (NamesFile (call_said call.now)) }
         ensures code { IfOk result (λ reply. reply_code reply ≡ reply_code_due (kind_in (call_said call.now)) (reply_said reply)) }
+        ensures kind { IfOk result (λ reply. ReplyTellsKind (kind_in (call_said call.now)) reply) }
     {
         let answer = match *call {
             Call::AddEntity(code) => of_entity(self.add_entity(code)),

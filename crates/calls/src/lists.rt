@@ -1,10 +1,10 @@
 // Making a checker; adding entities and contracts; looking up; and the total.
-ghost use Rattle.std.specs.Prelude.{◌≡◌, ℕ, ◌+◌, List, [], length, IfOk};
+ghost use Rattle.std.specs.Prelude.{◌≡◌, ℕ, ◌+◌, List, [], length, IfOk, OnErr};
 ghost use Rattle.book.specs.Book.{Call, AddEntity, AddContract, LookUp, Total as TotalCall, Accepted as AcceptedAnswer};
 ghost use Rattle.claims.specs.Faults.{line_fault_code};
 ghost use Rattle.calls.specs.Codes.{code_in, code_due, kind_of};
 ghost use Rattle.calls.specs.Follows.{book_after, book_total};
-ghost use Rattle.calls.specs.Held.{Led, Continues};
+ghost use Rattle.calls.specs.Held.{Led, Continues, KeepsPlaces};
 ghost use Rattle.calls.specs.Said.{entity_answer, contract_answer, finding_answer};
 
 use crate::checker::Checker;
@@ -39,17 +39,23 @@ impl<'id, 's, S: Store, M: Measure> Checker<'id, 's, S, M> {
         })
     }
 
-    // Adds a reporting entity by its ACER code.
+    /// Adds a reporting entity by its ACER code, or tells the first rule that it breaks, and then the
+    /// checker is what it was.
     pub fn add_entity(&mut self, code: &[u8]) -> Result<(), EntityFault>
-        ensures { Continues M.Measure self.old (AddEntity code.now) (entity_answer result) self.new }
+        ensures follows { Continues M.Measure self.old (AddEntity code.now) (entity_answer result) self.new }
+        ensures refused { OnErr result (self.new ≡ self.old) }
+        ensures places { KeepsPlaces self.old self.new }
     {
         self.entities.add(code)
     }
 
-    // Adds a contract by its text: its number, which is one more than how many were listed, or the first rule that it breaks.
+    /// Adds a contract by its text: its number, which is one more than how many were listed, or the
+    /// first rule that it breaks, and then the checker is what it was.
     pub fn add_contract(&mut self, text: &[u8]) -> Result<u8, ContractFault>
         ensures number { IfOk result (λ n. n ≡ length self.old.contracts + 1) }
         ensures follows { Continues M.Measure self.old (AddContract text.now) (contract_answer result) self.new }
+        ensures refused { OnErr result (self.new ≡ self.old) }
+        ensures places { KeepsPlaces self.old self.new }
     {
         self.contracts.add(text)
     }

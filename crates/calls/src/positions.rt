@@ -7,15 +7,15 @@ use life::{CONTRACTS, Store};
 use measure::{Both, Measure, Sheet};
 
 impl<'id, 's, S: Store, B: Measure> Checker<'id, 's, S, Both<Sheet, B>> {
-    // The position of a contract, in hundred-thousandths. Over a store with room for at most 65,535 lives it is the true sum over the open trades of
-    // the book: what was bought less what was sold.
+    /// The position of a contract, in hundred-thousandths: what the open trades of the book bought less
+    /// what they sold, modulo 2^64, and the sum itself over a store with room for at most 65,535 lives.
     pub fn position(&self, contract: u8) -> i64
         ensures { TellsPosition ⟦<Both<Sheet, B> as Measure>⟧ self.now contract result }
     {
         self.register.total().parts().0.position(contract)
     }
 
-    // The positions of all contracts, by their numbers, 0 for trades outside a market place.
+    /// The positions of all contracts, by their numbers, 0 for trades outside a market place.
     pub fn positions(&self) -> [i64; CONTRACTS]
         ensures { (n : ℕ) → n < 64 → TellsPosition ⟦<Both<Sheet, B> as Measure>⟧ self.now n (slice_index_or result n (pos 0)) }
     {

@@ -24,11 +24,11 @@ impl<'s, S: Store, M: Measure> CompletedRun<'s, S, M> {
     ) -> Result<CompletedRun<'s, S, M>, AllocError>
         ensures { IfOk result (λ run. HasRun M.Measure (S.room store.old) [] run) }
     {
-        let checker = Checker::new(heap, store, Mark::new())?;
-        let answers = Vec::with_capacity(heap, calls.len())?;
+        let mut checker = Checker::new(heap, store, Mark::new())?;
+        checker.reserve(calls.iter().filter(|call| matches!(call, Call::NameFile(_))).count())?;
         Ok(CompletedRun {
             checker,
-            answers,
+            answers: Vec::with_capacity(heap, calls.len())?,
             totals: Vec::new(heap),
         })
     }

@@ -70,6 +70,7 @@ impl FileList {
     ) -> Result<(), IdentifyFault>
         ensures told { identify_refusal result ≡ first_fit identifying_rows (entities.now, file_of self.old.files number, code.now) }
         ensures list { self.new ≡ with_files (identified_in entities.now self.old.files number code.now) self.old }
+        ensures refused { OnErr result (self.new ≡ self.old) }
     {
         let file = self.file(number).ok_or(IdentifyFault::OutOfPlace)?;
         file.allows_identifying(entities, code)?;
@@ -83,6 +84,7 @@ impl FileList {
         ensures told { place_refusal result ≡ first_fit withdrawing_rows (file_of self.old.files number) }
         ensures counts { IfOk result (λ receipt. receipt ≡ receipt_of (file_of self.old.files number)) }
         ensures list { self.new ≡ with_files (withdrawn_in self.old.files number) self.old }
+        ensures refused { OnErr result (self.new ≡ self.old) }
     {
         let file = self.file(number).ok_or(PlaceFault::OutOfPlace)?;
         file.stands_at(Stage::Named)?;
@@ -95,6 +97,7 @@ impl FileList {
         ensures told { place_refusal result ≡ first_fit closing_rows (file_of self.old.files number) }
         ensures counts { IfOk result (λ receipt. receipt ≡ receipt_of (file_of self.old.files number)) }
         ensures list { self.new ≡ with_files (closed_in self.old.files number) self.old }
+        ensures refused { OnErr result (self.new ≡ self.old) }
     {
         let file = self.file(number).ok_or(PlaceFault::OutOfPlace)?;
         file.stands_at(Stage::Identified)?;

@@ -1,5 +1,5 @@
 // Calls on a file by its token, which is given up, or handed back by a refusal to identify.
-ghost use Rattle.std.specs.Prelude.{◌≡◌, IfOk, MatchResult};
+ghost use Rattle.std.specs.Prelude.{◌≡◌, IfOk, OnErr, MatchResult};
 ghost use Rattle.text.specs.Rows.{first_fit};
 ghost use Rattle.calls.specs.FileAnswers.{token_refusal, place_refusal, receipt_of};
 ghost use Rattle.filing.specs.Files.{identifying_rows, withdrawing_rows, closing_rows};
@@ -23,6 +23,7 @@ impl FileList {
         ensures told { token_refusal result ≡ first_fit identifying_rows (entities.now, file_of self.old.files file.entry.number, code.now) }
         ensures token { MatchResult result (λ identified. identified.number ≡ file.entry.number) (λ refusal. refusal.1 ≡ file.entry) }
         ensures list { self.new ≡ with_files (identified_in entities.now self.old.files file.entry.number code.now) self.old }
+        ensures refused { OnErr result (self.new ≡ self.old) }
     {
         match self.identify_at(file.number(), entities, code) {
             Ok(()) => Ok(file.into_identified()),
@@ -35,6 +36,7 @@ impl FileList {
         ensures told { place_refusal result ≡ first_fit withdrawing_rows (file_of self.old.files file.entry.number) }
         ensures counts { IfOk result (λ receipt. receipt ≡ receipt_of (file_of self.old.files file.entry.number)) }
         ensures list { self.new ≡ with_files (withdrawn_in self.old.files file.entry.number) self.old }
+        ensures refused { OnErr result (self.new ≡ self.old) }
     {
         self.withdraw_at(file.into_number())
     }
@@ -44,6 +46,7 @@ impl FileList {
         ensures told { place_refusal result ≡ first_fit closing_rows (file_of self.old.files file.entry.number) }
         ensures counts { IfOk result (λ receipt. receipt ≡ receipt_of (file_of self.old.files file.entry.number)) }
         ensures list { self.new ≡ with_files (closed_in self.old.files file.entry.number) self.old }
+        ensures refused { OnErr result (self.new ≡ self.old) }
     {
         self.close_at(file.into_number())
     }

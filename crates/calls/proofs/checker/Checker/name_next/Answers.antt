@@ -23,4 +23,4 @@ returns g c =
     (λ none capacity past f. subst (λ fs. Follows m capacity past (with_files (book_in was) fs) was.register.total)
     (sym (named.ensures.list ∙ ap (λ b. cond b (named_in files c.args.name.now) files) none)) f) in
     let wanting = wanting_so _ (had_memory named.result) c.of_naming.result c.of_naming.ensures.answer (λ none. (c.args.name.now, refl, named.ensures.form_first none)) in
-    record { follows = so.0; memory = so.1; wanting = wanting; code = c.of_naming.ensures.code }
+    record { follows = so.0; memory = so.1; wanting = wanting; code = c.of_naming.ensures.code; kinds = c.of_naming.ensures.kinds }

@@ -6,7 +6,7 @@ use Rattle.book.specs.Book.{Refused}
 use Rattle.calls.specs.Held.{book_in}
 use Rattle.calls.specs.Steps.{Tried}
 use Rattle.calls.specs.Codes.{kind_of}
-use Rattle.calls.proofs.Codes.{by_file, by_line, by_act}
+use Rattle.calls.proofs.Codes.{by_file, by_line, by_act, claimed_kind}
 use Rattle.calls.proofs.Judging.{file_refused, text_refused, lives_decide}
 use Rattle.calls.proofs.checker.Checker.try_line.Goals as goal
 
@@ -55,3 +55,6 @@ returns-in_err-claim-clause-code g c =
 pub returns-in-Err-clause-code : goal.returns-in-Err-clause-code
 returns-in-Err-clause-code g c =
     by_act c.args.self.now.contracts c.args.line.now c.in_ok-claim.claim c.in-Err.fault c.in_ok-claim.ensures
+
+pub returns-in-Err-clause-kind : goal.returns-in-Err-clause-kind
+returns-in-Err-clause-kind g c = claimed_kind c.args.self.now.contracts c.args.line.now c.in_ok-claim.claim c.in_ok-claim.ensures
