@@ -26,10 +26,9 @@ contract_fault_field Full = 0
 
 abbrev pub contract_fault_offset : ContractFault → ℕ
 contract_fault_offset (Form e) = fault_offset e
-contract_fault_offset Listed = 0
 contract_fault_offset (Style at) = at
 contract_fault_offset (NameTwice at) = at
-contract_fault_offset Full = 0
+contract_fault_offset _ = 0
 
 abbrev pub contract_fault_code : ContractFault → Option Bytes
 contract_fault_code (Style at) = Some (codes "R10D0S0PTM")
@@ -48,8 +47,7 @@ list_fault_number NoName = 33
 
 abbrev pub list_fault_field : ListFault → ℕ
 list_fault_field NotListed = 3
-list_fault_field OtherName = 11
-list_fault_field NoName = 11
+list_fault_field _ = 11
 
 abbrev pub list_fault_code : ListFault → Bytes
 list_fault_code NotListed = codes "R1CTCITRAIDE"

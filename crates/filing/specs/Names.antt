@@ -16,10 +16,8 @@ a_schema t = between 1 32 (length t) && every is_ascii_alphanumeric t
 
 -- `V` and a digit
 abbrev pub a_version : Bytes → Bool
-a_version [] = false
-a_version (b ∷ []) = false
 a_version (b ∷ c ∷ []) = b == 86 && is_ascii_digit c
-a_version (b ∷ c ∷ d ∷ bs) = false
+a_version _ = false
 
 -- 1 to 9 digits and `.xml`
 abbrev pub a_last : Bytes → Bool
@@ -30,13 +28,8 @@ a_last t =
 
 -- the code among the five parts of a name
 abbrev pub code_in : List Bytes → Option Bytes
-code_in [] = None
-code_in (a ∷ []) = None
-code_in (a ∷ b ∷ []) = None
-code_in (a ∷ b ∷ c ∷ []) = None
-code_in (a ∷ b ∷ c ∷ d ∷ []) = None
 code_in (a ∷ b ∷ c ∷ d ∷ e ∷ []) = cond (a_date a && (a_schema b && (a_version c && a_last e))) (code_form d) None
-code_in (a ∷ b ∷ c ∷ d ∷ e ∷ f ∷ rest) = None
+code_in _ = None
 
 -- date, schema, version, the entity's ACER code, and a number with `.xml`, joined by `_`: the code
 unfoldable pub name_form : Bytes → Option Bytes

@@ -10,14 +10,12 @@ fault_number Fields = 2
 fault_number (Form f at) = 10 + f
 
 abbrev pub fault_field : ReadFault → ℕ
-fault_field Length = 0
-fault_field Fields = 0
 fault_field (Form f at) = f
+fault_field _ = 0
 
 abbrev pub fault_offset : ReadFault → ℕ
-fault_offset Length = 0
-fault_offset Fields = 0
 fault_offset (Form f at) = at
+fault_offset _ = 0
 
 -- the refusal that a fault of reading tells
 abbrev pub read_refusal : ReadFault → Refusal

@@ -37,9 +37,8 @@ marks_of = map (λ e. marked e.judging e.refused_by)
 
 -- an accepted Error of the key
 abbrev pub strikes_at : KeyParts → MarkParts → Bool
-strikes_at k NoReportLine = false
-strikes_at k RefusedLine = false
 strikes_at k (LineOf q error) = error && same_key q k
+strikes_at k _ = false
 
 -- an Error takes the life of the key out, somewhere in the marks
 abbrev pub struck_in : KeyParts → List MarkParts → Bool
@@ -54,9 +53,8 @@ leaves_out ms (LineOf k error) = struck_in k ms
 
 -- the calls that are not left out
 abbrev pub kept_calls : List Call → List MarkParts → List Call
-kept_calls [] ms = []
-kept_calls (c ∷ cs) [] = []
 kept_calls (c ∷ cs) (m ∷ ms) = cond (leaves_out (m ∷ ms) m) (kept_calls cs ms) (c ∷ kept_calls cs ms)
+kept_calls _ _ = []
 
 -- ---- Where the last Errors stand
 

@@ -11,22 +11,14 @@ use Rattle.resends.specs.declared.sending.ResendError.TheVariants.{OtherCapacity
 
 -- a judged line is answered 'accepted'
 abbrev pub LineAccepted : Call → Answer → Type 0
-LineAccepted (AddEntity bs) a = Unit {0}
-LineAccepted (AddContract bs) a = Unit {0}
-LineAccepted (NameFile bs) a = Unit {0}
-LineAccepted (Identify n bs) a = Unit {0}
-LineAccepted (Withdraw n) a = Unit {0}
-LineAccepted (Close n) a = Unit {0}
 LineAccepted (Judge n bs) a = a ≡ Accepted
-LineAccepted (LookUp bs) a = Unit {0}
-LineAccepted Total a = Unit {0}
+LineAccepted _ a = Unit {0}
 
 -- each call has its answer, and each judged line is accepted
 abbrev pub LinesAccepted : List Call → List Answer → Type 0
 LinesAccepted [] [] = Unit {0}
-LinesAccepted [] (a ∷ later) = ⊥
-LinesAccepted (c ∷ cs) [] = ⊥
 LinesAccepted (c ∷ cs) (a ∷ later) = LineAccepted c a × LinesAccepted cs later
+LinesAccepted _ _ = ⊥
 
 -- the law of sending again: a new checker was given the calls; what is left are the survivors of that run; and a second new checker, with room for as many lives,
 -- was given these. It accepted every judged line among them, and holds what the first holds: entities, contracts, files at the same stage, at each
@@ -46,6 +38,5 @@ pub record Resends {V : Type 0} (weighing : Ghosts V) (capacity : ℕ) (calls : 
 
 -- whether nothing was sent again since the second store has room for another number of lives
 abbrev pub other_capacity : {V : Type 0} → Result V ResendError → Bool
-other_capacity (Ok v) = false
 other_capacity (Err OtherCapacity) = true
-other_capacity (Err NoMemory) = false
+other_capacity _ = false

@@ -46,18 +46,14 @@ pieces sep (b ∷ bs) = cond (b == sep) ([] ∷ pieces sep bs) (onto_first b (pi
 
 -- the piece of a number, from 1
 abbrev pub piece : ℕ → List Bytes → Bytes
-piece zero ts = []
-piece (suc zero) [] = []
 piece (suc zero) (t ∷ ts) = t
-piece (suc (suc n)) [] = []
 piece (suc (suc n)) (t ∷ ts) = piece (suc n) ts
+piece _ _ = []
 
 -- where that piece starts: each earlier piece and its separator stand before it; no piece (0) starts at 0
 abbrev pub start : ℕ → List Bytes → ℕ
-start zero ts = 0
-start (suc zero) ts = 0
-start (suc (suc n)) [] = 0
 start (suc (suc n)) (t ∷ ts) = length t + 1 + start (suc n) ts
+start _ _ = 0
 
 -- ---- Forms: a text has a form and says a value, or lacks it
 

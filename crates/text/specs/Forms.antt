@@ -53,10 +53,9 @@ time_form t = then (digits_form 10 t) (at_most 4_294_967_295)
 
 -- 1 to `most` digits, then optionally a dot and 1 to 5 digits: the hundred-thousandths
 abbrev pub decimal_of : ℕ → List Bytes → Option ℕ
-decimal_of most [] = None
 decimal_of most (w ∷ []) = then (digits_form most w) (λ n. Some (n * 100_000))
 decimal_of most (w ∷ p ∷ []) = then (digits_form most w) (λ n. then (digits_form 5 p) (λ m. Some (n * 100_000 + m * 10 ^ (5 - length p))))
-decimal_of most (w ∷ p ∷ q ∷ rest) = None
+decimal_of most _ = None
 
 unfoldable pub decimal_form : ℕ → ℕ → Bytes → Option ℕ
 decimal_form most limit t = then (decimal_of most (pieces 46 t)) (at_most (limit * 100_000))
