@@ -1,14 +1,19 @@
 -- Every run keeps the book tidy.
-use Rattle.std.proofs.Common.{◌≡◌, ℕ, zero, suc, ◌+◌, ◌<◌, ◌≤◌, Bool, true, false, cond, ◌&&◌, leb, List, [], ◌∷◌, length, set, ℤ, is_some, Some, None, Option, sym, refl, ◌∙◌, subst, arith, length-append}
-use Rattle.std.specs.List.{AllByRecursion}
+use Rattle.std.proofs.Common.{◌≡◌, ℕ, zero, suc, ◌+◌, ◌<◌, ◌≤◌, Bool, true, false, cond, ◌&&◌, ◌||◌, leb, ltb, List, [], ◌∷◌, ◌++◌, length, map, set, ℤ, is_some, Some, None, Option, sym, refl, ap, ◌∙◌, subst, arith, length-append}
+use Rattle.std.specs.List.{AllByRecursion, IsDistinct, list_any}
+use Rattle.std.specs.Str.{bytes_eq}
 use Rattle.std.proofs.ByRecursion.{All-set, All-push}
-use Rattle.std.proofs.lemmas.Bool.{leb-true, leb-false, not-false, or_parts, cond_both}
+use Rattle.std.proofs.lemmas.Bool.{leb-true, leb-false, ltb-false, not-false, or_parts, cond_both}
+use Rattle.std.proofs.lemmas.Cmp.{nat_list_eq_equiv}
+use Rattle.std.proofs.lemmas.List.{map-append}
+use Rattle.std.proofs.lemmas.List.Sums.{sum_by_push}
+use Rattle.std.proofs.lemmas.Map.Keys.{IsDistinct-push}
 use Rattle.text.specs.declared.words.Action.{Action}
 use Rattle.text.specs.declared.words.Action.TheVariants.{New, Modify, Error, Cancel}
-use Rattle.text.specs.Bytes.{Bytes, pieces, value, then}
+use Rattle.text.specs.Bytes.{Bytes, among, pieces, value, then}
 use Rattle.text.specs.Forms.{at_most, decimal_of, decimal_form, quantity_form}
 use Rattle.text.specs.Rows.{first_fit}
-use Rattle.contract.specs.ContractList.{Contract, contract_limit, numbered, number_of, contract_number, bilateral, listing_rows, text_rows, offered}
+use Rattle.contract.specs.ContractList.{Contract, contract_limit, name_limit, names_in, numbered, listed, number_of, contract_number, bilateral, listing_rows, text_rows, offered}
 use Rattle.filing.specs.Entities.{entity_limit, entity_rows}
 use Rattle.filing.specs.Files.{Stage, Identified, Ended, File, named_file, at_stage, identified, judged_limit, taking_rows, one_accepted, one_refused}
 use Rattle.life.specs.Parts.{KeyParts, LifeParts}
@@ -139,6 +144,51 @@ acted_tidy Cancel k t q p capacity ls c w r s = record {
   each = all_altered k _ (λ j l h. record { numbered_within = h.numbered_within; quantity_within = h.quantity_within }) ls s.each;
 }
 
+-- ---- Lists without repeats
+
+none_twice : IsDistinct bytes_eq []
+unfolding IsDistinct
+none_twice = tt
+
+any_among : (ts : List Bytes) (t : Bytes) → list_any (bytes_eq t) ts ≡ among ts t
+any_among [] t = refl
+any_among (u ∷ us) t = ap (λ b. bytes_eq t u || b) (any_among us t)
+
+-- one text more, which does not stand in the list
+distinct_push : (ts : List Bytes) (t : Bytes) → IsDistinct bytes_eq ts → among ts t ≡ false →
+    IsDistinct bytes_eq (ts ++ t ∷ [])
+distinct_push ts t d e = IsDistinct-push nat_list_eq_equiv ts t d (any_among ts t ∙ e)
+
+abbrev ids : List Contract → List Bytes
+ids cs = map (λ c. c.contract_id) cs
+
+-- no contract has an id that is not listed
+not_among : (n : ℕ) (cs : List Contract) (t : Bytes) → is_some (numbered n cs t) ≡ false →
+    among (ids cs) t ≡ false
+not_among n [] t e = refl
+not_among n (c ∷ cs) t e = go (bytes_eq c.contract_id t) refl e (not_among (suc n) cs t)
+  where
+    go : (b : Bool) → bytes_eq c.contract_id t ≡ b →
+        is_some (cond b (Some (n, c)) (numbered (suc n) cs t)) ≡ false →
+        (is_some (numbered (suc n) cs t) ≡ false → among (ids cs) t ≡ false) →
+        (bytes_eq t c.contract_id || among (ids cs) t) ≡ false
+    go true f h more = let no : ◌≡◌ {A = Bool} true false = h in absurd (grind (arith, no))
+    go false f h more =
+        ap (λ b. b || among (ids cs) t) (nat_list_eq_equiv.symm t c.contract_id ∙ f) ∙ more h
+
+ids_push : (cs : List Contract) (c : Contract) → IsDistinct bytes_eq (ids cs) →
+    is_some (listed cs c.contract_id) ≡ false → IsDistinct bytes_eq (ids (cs ++ c ∷ []))
+ids_push cs c d e =
+    subst (λ ts. IsDistinct bytes_eq ts) (sym (map-append (λ c. c.contract_id) cs (c ∷ [])))
+    (distinct_push (ids cs) c.contract_id d (not_among 1 cs c.contract_id e))
+
+names_push : (cs : List Contract) (c : Contract) →
+    ltb name_limit (names_in cs + length c.index_names) ≡ false →
+    names_in (cs ++ c ∷ []) ≤ name_limit
+names_push cs c e =
+    let within : names_in cs + length c.index_names ≤ name_limit = ltb-false _ _ e in
+    omega (arith, within, sum_by_push (λ (c : Contract). length c.index_names) cs c)
+
 -- ---- A call, and a run
 
 module _ (capacity : ℕ) where
@@ -151,6 +201,9 @@ module _ (capacity : ℕ) where
     each_file = h;
     entities_within = s.entities_within;
     contracts_within = s.contracts_within;
+    names_within = s.names_within;
+    no_entity_twice = s.no_entity_twice;
+    no_id_twice = s.no_id_twice;
   }
 
   lives_tidy : (b : Book) (ls : Lives) → Tidy capacity b → TidyLives capacity ls → Tidy capacity (with_lives b ls)
@@ -162,6 +215,9 @@ module _ (capacity : ℕ) where
     each_file = s.each_file;
     entities_within = s.entities_within;
     contracts_within = s.contracts_within;
+    names_within = s.names_within;
+    no_entity_twice = s.no_entity_twice;
+    no_id_twice = s.no_id_twice;
   }
 
   put_tidy : (b : Book) (n : ℕ) (f : File) → Tidy capacity b → TidyFile f → Tidy capacity (put_file b n f)
@@ -181,7 +237,8 @@ module _ (capacity : ℕ) where
   entity_tidy : (bs : Bytes) (b : Book) (v : Option (ℕ × ℕ)) → verdict b (AddEntity bs) ≡ v → Tidy capacity b → Tidy capacity (changed b (AddEntity bs) v)
   entity_tidy bs b (Some r) e s = s
   entity_tidy bs b None e s =
-      let w : length b.entities < entity_limit = leb-false _ _ (none_fits entity_rows (b.entities, bs) e).1.1.0 in
+      let rows = none_fits entity_rows (b.entities, bs) e in
+      let w : length b.entities < entity_limit = leb-false _ _ rows.1.1.0 in
       record {
         as_made = s.as_made;
         no_key_twice = s.no_key_twice;
@@ -190,13 +247,18 @@ module _ (capacity : ℕ) where
         each_file = s.each_file;
         entities_within = simp length-append (omega (arith, w));
         contracts_within = s.contracts_within;
+        names_within = s.names_within;
+        no_entity_twice = distinct_push b.entities bs s.no_entity_twice rows.1.0;
+        no_id_twice = s.no_id_twice;
       }
 
   contract_tidy : (bs : Bytes) (b : Book) (v : Option (ℕ × ℕ)) → verdict b (AddContract bs) ≡ v → Tidy capacity b → Tidy capacity (changed b (AddContract bs) v)
   contract_tidy bs b (Some r) e s = s
   contract_tidy bs b None e s =
       let none = (or_none (first_fit text_rows bs) _ (sym (contract_parts b.contracts bs) ∙ e)).1 in
-      let w : length b.contracts < contract_limit = leb-false _ _ (or_parts _ _ (none_fits listing_rows (b.contracts, offered bs) none).1.1.1.0).0 in
+      let rows = none_fits listing_rows (b.contracts, offered bs) none in
+      let room = or_parts _ _ rows.1.1.1.0 in
+      let w : length b.contracts < contract_limit = leb-false _ _ room.0 in
       record {
         as_made = s.as_made;
         no_key_twice = s.no_key_twice;
@@ -205,6 +267,9 @@ module _ (capacity : ℕ) where
         each_file = s.each_file;
         entities_within = s.entities_within;
         contracts_within = simp length-append (omega (arith, w));
+        names_within = names_push b.contracts (offered bs) room.1;
+        no_entity_twice = s.no_entity_twice;
+        no_id_twice = ids_push b.contracts (offered bs) s.no_id_twice rows.0;
       }
 
   staging_tidy : (n : ℕ) (to : Stage) (b : Book) → Tidy capacity b → Tidy capacity (put_file b n (at_stage to (file_of b.files n)))
@@ -242,4 +307,7 @@ tidy_law capacity calls =
       each_file = tt;
       entities_within = omega arith;
       contracts_within = omega arith;
+      names_within = omega arith;
+      no_entity_twice = none_twice;
+      no_id_twice = none_twice;
     })

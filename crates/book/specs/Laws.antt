@@ -1,10 +1,11 @@
 -- Laws over whole runs of the book.
-use Rattle.std.specs.Prelude.{◌≡◌, ℕ, ◌+◌, ◌≤◌, Bool, true, false, cond, ◌&&◌, ◌||◌, ◌↔◌, List, [], ◌∷◌, ◌++◌, length, ℤ, Some, None, Option}
-use Rattle.std.specs.List.{AllZip, AllByRecursion}
+use Rattle.std.specs.Prelude.{◌≡◌, ℕ, ◌+◌, ◌≤◌, Bool, true, false, cond, ◌&&◌, ◌||◌, ◌↔◌, List, [], ◌∷◌, ◌++◌, length, map, ℤ, Some, None, Option}
+use Rattle.std.specs.List.{AllZip, AllByRecursion, IsDistinct}
+use Rattle.std.specs.Str.{bytes_eq}
 use Rattle.text.specs.declared.words.Action.{Action}
-use Rattle.text.specs.declared.words.Action.TheVariants.{New, Modify, Error, Cancel}
+use Rattle.text.specs.declared.words.Action.TheVariants.{New, Modify, Cancel}
 use Rattle.line.specs.Lines.{Reported}
-use Rattle.contract.specs.ContractList.{Contract, contract_limit}
+use Rattle.contract.specs.ContractList.{Contract, contract_limit, name_limit, names_in}
 use Rattle.filing.specs.Entities.{entity_limit}
 use Rattle.filing.specs.Files.{File, judged_limit}
 use Rattle.life.specs.declared.life.State.{State}
@@ -44,9 +45,8 @@ log b (c ∷ cs) = entry b c (verdict b c) ∷ log (after b c) cs
 
 -- an accepted Error of the key
 abbrev pub strikes : KeyParts → Subject → Option (ℕ × ℕ) → Bool
-strikes k no_line v = false
-strikes k (a_line q r) (Some n) = false
 strikes k (a_line q r) None = is_error r.action && same_key q k
+strikes k _ _ = false
 
 -- an Error takes the life of the key out, somewhere in the log
 abbrev pub struck : KeyParts → List Entry → Bool
@@ -101,9 +101,8 @@ pub data Deed : Type 0 where
 
 -- what one call of a log adds to the accepted lines of the key that came after it
 abbrev pub deed : KeyParts → Subject → Option (ℕ × ℕ) → List Deed → List Deed
-deed k no_line v ds = ds
-deed k (a_line q r) (Some n) ds = ds
 deed k (a_line q r) None ds = cond (same_key q k) (Did r.action r.time r.quantity r.price ∷ ds) ds
+deed k _ _ ds = ds
 
 -- the accepted lines of the key in a log, in their order
 abbrev pub deeds : KeyParts → List Entry → List Deed
@@ -112,10 +111,9 @@ deeds k (e ∷ es) = deed k e.judging e.refused_by (deeds k es)
 
 -- a line that neither enters a life nor takes it out
 abbrev pub GoesOn : Deed → Type 0
-GoesOn (Did New t q p) = ⊥
 GoesOn (Did Modify t q p) = Unit {0}
-GoesOn (Did Error t q p) = ⊥
 GoesOn (Did Cancel t q p) = Unit {0}
+GoesOn _ = ⊥
 
 -- a Cancel is among the lines
 abbrev pub some_cancel : List Deed → Bool
@@ -172,8 +170,9 @@ pub record TidyLife (p : Pair) : Type 0 where
   pub numbered_within : p.0.of_contract ≤ contract_limit
   pub quantity_within : p.1.with_quantity ≤ quantity_limit
 
--- the capacity is that of the start; no key twice, no more lives than the capacity, each life and each file tidy, no more entities and contracts than
--- may be listed
+-- the capacity is that of the start; no key twice, no more lives than the capacity, each life and
+-- each file tidy; no more entities, contracts and index names of all contracts together than may be
+-- listed; no entity twice, and no contract id
 pub record Tidy (capacity : ℕ) (b : Book) : Type 0 where
   pub as_made : b.capacity ≡ capacity
   pub no_key_twice : Unique b.lives
@@ -182,6 +181,9 @@ pub record Tidy (capacity : ℕ) (b : Book) : Type 0 where
   pub each_file : AllByRecursion TidyFile b.files
   pub entities_within : length b.entities ≤ entity_limit
   pub contracts_within : length b.contracts ≤ contract_limit
+  pub names_within : names_in b.contracts ≤ name_limit
+  pub no_entity_twice : IsDistinct bytes_eq b.entities
+  pub no_id_twice : IsDistinct bytes_eq (map (λ c. c.contract_id) b.contracts)
 
 abbrev pub TidyLaw : Type 0
 TidyLaw = (capacity : ℕ) (calls : List Call) → Tidy capacity (end (empty_book capacity) calls)
