@@ -1,5 +1,8 @@
 // What happened, and the printing of it.
 use calls::Receipt;
+use life::{Life, State};
+use output::OutputFault;
+use std::io::Write;
 use std::{fmt, io};
 
 // It holds what is printed: numbers, whatever call they come from.
@@ -21,8 +24,12 @@ pub enum Event {
     Closed(Receipt),
     Withdrawn(Receipt),
     NotEnded(u8),
-    // of contract 1
-    Position(i64),
+    // what stands under a line's key
+    Found(Option<Life>),
+    NotLookedUp { number: u16, field: u8, at: usize },
+    Position { contract: u8, sum: i64 },
+    // the hand holds no token that the call takes
+    NoCall,
 }
 
 fn write_counts<W: fmt::Write>(
@@ -39,6 +46,20 @@ fn write_counts<W: fmt::Write>(
         f,
         "{ended}: {judged} judged, {accepted} accepted, {refused} refused"
     )
+}
+
+fn write_life<W: fmt::Write>(f: &mut fmt::Formatter<W>, life: Life) -> fmt::Result {
+    let state = match life.state {
+        State::Open => "open",
+        State::Cancelled => "cancelled",
+    };
+    let time = life.time;
+    let quantity = life.quantity;
+    write!(f, "{state} life: time {time}, quantity {quantity}, ")?;
+    match life.price {
+        Some(price) => write!(f, "price {price}"),
+        None => write!(f, "no price"),
+    }
 }
 
 impl fmt::Display for Event {
@@ -61,7 +82,18 @@ impl fmt::Display for Event {
             Event::Closed(receipt) => write_counts(f, "closed", receipt),
             Event::Withdrawn(receipt) => write_counts(f, "withdrawn", receipt),
             Event::NotEnded(number) => write!(f, "not ended: refused {number}"),
-            Event::Position(sum) => write!(f, "position of contract 1: {sum}"),
+            Event::Found(Some(life)) => write_life(f, life),
+            Event::Found(None) => write!(f, "no life"),
+            Event::NotLookedUp { number, field, at } => {
+                write!(
+                    f,
+                    "not looked up: refused {number} field {field} offset {at}"
+                )
+            }
+            Event::Position { contract, sum } => {
+                write!(f, "position of contract {contract}: {sum}")
+            }
+            Event::NoCall => write!(f, "no call"),
         }
     }
 }
@@ -88,7 +120,26 @@ impl Journal {
         }
     }
 
+    // A buffer, after answer lines were written to its front or refused.
+    pub(crate) fn show(&mut self, filled: Result<usize, OutputFault>, buffer: &[u8]) {
+        if self.written.is_ok() {
+            self.written = show_in(self.rt, filled, buffer);
+        }
+    }
+
     pub(crate) fn end(self) -> io::Result<()> {
         self.written
     }
+}
+
+fn show_in(rt: HostRuntime, filled: Result<usize, OutputFault>, buffer: &[u8]) -> io::Result<()> {
+    match filled {
+        Ok(n) => println!(rt; "{n} bytes written:")?,
+        Err(fault) => {
+            let number = fault.number();
+            println!(rt; "nothing written: refused {number}:")?;
+        }
+    }
+    rt.stdout().write_all(buffer)?;
+    println!(rt; "")
 }
