@@ -1,11 +1,21 @@
-// Drives the contract list, the entity list and the reader of file names with the lines of its input, and prints what each answers.
+// Drives the contract list, the entity list and the reader of file names with the lines of its
+// input, and prints what each answers:
+//
+//     N         new lists
+//     K;TEXT    adds a contract: its number
+//     R;CODE    adds an entity
+//     F;NAME    reads the name of a file: its entity's code, where that stands, whether it is known
+//     P;LINE    the contract number of a report line
+//
+// A refusal is told with its number, field and offset, and the code if it has one. Any other line
+// is a heading, and is printed as it is.
 #![tactic(auto)]
 
 use contract::{ContractFault, ContractList};
 use filing::{EntityList, read_name};
 use line::{ReadFault, field_offset, read_line};
 use std::alloc::{AllocError, Global};
-use std::io::Read;
+use std::io::{Read, Write};
 use std::{fmt, io};
 
 // Bytes, printed as characters.
@@ -194,8 +204,8 @@ fn main(rt: HostRuntime) -> io::Result<()> {
             Command::Name(name) => lists.name(rt, name)?,
             Command::Line(report) => lists.contract_of(rt, report)?,
             Command::Heading => {
-                let heading = Shown(line);
-                println!(rt; "{heading}")?;
+                rt.stdout().write_all(line)?;
+                println!(rt; "")?;
             }
         }
     }

@@ -1,271 +1,16 @@
-//! Makes test input for `checker`: `generate SEED LINES` prints about LINES input lines, the same for the same seed.
+//! Input lines of `checker`.
 //!
-//! Build: `rustc -O generate.rs`. Written from RULES.md alone.
-//!
-//! The generator keeps a rough picture of what a checker with 255 lives holds (lists, file, lives), only to steer: most
-//! report lines shall fit, and the others shall miss by a little. It does not matter where the picture is wrong.
+//! The generator keeps a rough picture of what a checker holds (lists, file, lives), only to steer:
+//! most report lines shall fit, and the others shall miss by a little. It does not matter where the
+//! picture is wrong.
 
-use std::io::Write;
-
-type Text = Vec<u8>;
+use crate::forms::*;
+use crate::rng::{Rng, Text};
 
 const MAX_TIME: u64 = 4_294_967_295;
+
+/// How many lives the program `checker` holds where no option says another number.
 const CAPACITY: usize = 255;
-
-/// Bytes at the edges of the forms, and some that are often handled wrongly.
-const ODD_BYTES: &[u8] =
-    b"\x00\x09\x0B\x0C\x0D\x1F\x20\x21\x22\x2B\x2C\x2D\x2E\x2F\x30\x39\x3A\x3B\x40\x41\x5A\x5B\x5F\
-    \x60\x61\x7A\x7B\x7E\x7F\x80\x8A\xA0\xBB\xC3\xFE\xFF";
-
-// ---------- Random numbers
-
-/// xorshift64*, begun by a step of splitmix64 so that near seeds differ at once.
-struct Rng(u64);
-
-impl Rng {
-    fn new(seed: u64) -> Rng {
-        let mut word = seed.wrapping_add(0x9E37_79B9_7F4A_7C15);
-        word = (word ^ (word >> 30)).wrapping_mul(0xBF58_476D_1CE4_E5B9);
-        word = (word ^ (word >> 27)).wrapping_mul(0x94D0_49BB_1331_11EB);
-        Rng((word ^ (word >> 31)).max(1))
-    }
-
-    fn next(&mut self) -> u64 {
-        self.0 ^= self.0 >> 12;
-        self.0 ^= self.0 << 25;
-        self.0 ^= self.0 >> 27;
-        self.0.wrapping_mul(0x2545_F491_4F6C_DD1D) >> 16
-    }
-
-    /// A number from 0 to `end` - 1; `end` is not 0.
-    fn below(&mut self, end: usize) -> usize {
-        (self.next() % end as u64) as usize
-    }
-
-    fn range(&mut self, least: usize, most: usize) -> usize {
-        least + self.below(most - least + 1)
-    }
-
-    fn percent(&mut self, chance: usize) -> bool {
-        self.below(100) < chance
-    }
-
-    fn pick<'a, T>(&mut self, list: &'a [T]) -> &'a T {
-        &list[self.below(list.len())]
-    }
-
-    fn text(&mut self, list: &[&[u8]]) -> Text {
-        self.pick(list).to_vec()
-    }
-
-    fn bytes(&mut self, length: usize, of: &[u8]) -> Text {
-        (0..length).map(|_| *self.pick(of)).collect()
-    }
-
-    /// Any id bytes, `least` to `most` of them.
-    fn id(&mut self, least: usize, most: usize) -> Text {
-        let length = self.range(least, most);
-        let all: Text = (0x21..=0x7E).filter(|byte| !b";,".contains(byte)).collect();
-        self.bytes(length, &all)
-    }
-
-    fn acer(&mut self) -> Text {
-        let mut code = self.bytes(9, b"ABCXYZ0189");
-        code.push(b'.');
-        code.extend(self.bytes(2, b"ADEUZ"));
-        code
-    }
-}
-
-// ---------- Forms, just within and just past their limits
-
-const KINDS: [&[u8]; 2] = [b"ORD", b"TRD"];
-const SIDES: [&[u8]; 2] = [b"B", b"S"];
-const VENUES: [&[u8]; 5] = [b"XEER", b"XBIL", b"0000", b"ZZ9Z", b"XBIM"];
-const ACTIONS: &[u8] = b"NMCE";
-const TYPES: [&[u8]; 13] =
-    [b"AU", b"CO", b"FU", b"FW", b"OP", b"OP_FU", b"OP_FW", b"OP_SP", b"OP_SW", b"OT", b"SP", b"SW", b"SWG"];
-
-const KIND_CASES: &[&[u8]] =
-    &[b"", b"ORDER", b"ord", b"OR", b"TRD ", b" TRD", b"TRd", b"ORD\0", b"TRD\r", b"T", b"O", b"ORDTRD", b"\xFF"];
-const VENUE_CASES: &[&[u8]] = &[
-    b"", b"XEE", b"XEERR", b"xeer", b"XEEr", b"XE-R", b"XBIL", b"XBIl", b" XBIL", b"XBIL ", b"AZ09", b"@EER", b"XEE[",
-    b"XEE/", b"XEE:", b"XE\x80R", b"XEE\0", b"XEE.", b"XEE\r",
-];
-const SIDE_CASES: &[&[u8]] = &[b"", b"b", b"s", b"BS", b"X", b"S ", b"B\r", b"A", b"T", b"\0", b"\xC2", b"B,S"];
-const ACTION_CASES: &[&[u8]] = &[b"", b"n", b"e", b"NN", b"X", b" N", b"M ", b"D", b"C\r", b"\xFF", b"NMCE", b"0"];
-const TIME_CASES: &[&[u8]] = &[
-    b"", b"0", b"4294967295", b"4294967296", b"4294967294", b"9999999999", b"04294967295", b"0000000000",
-    b"00000000000", b"0000000001", b"-1", b"+1", b"1.0", b" 1", b"1 ", b"1e3", b"18446744073709551617", b"4294967297",
-    b"10\x00", b"1/2", b"1:2", b"\xFF", b"5000000000", b"100\r", b"0x10",
-];
-const QUANTITY_CASES: &[&[u8]] = &[
-    b"", b"0", b"10000000", b"10000000.0", b"10000000.00000", b"10000000.00001", b"10000000.000000", b"9999999.99999",
-    b"99999999", b"09999999", b"010000000", b"000000001", b"00000001", b"1.", b".5", b".", b"1.000001", b"1.00001",
-    b"0.00001", b"0.00000", b"-1", b"-0", b"+1", b"1,5", b"1.2.3", b"1 ", b" 1", b"10000001", b"1e5", b"1\0", b"1.5\r",
-    b"99999999.99999", b"184467440737095", b"1.0000\x80", b"1..5", b"00000000.00000", b"10000000.1",
-];
-const PRICE_CASES: &[&[u8]] = &[
-    b"", b"-", b"-0", b"0", b"-0.00000", b"-0.00001", b"0.00001", b"1000000", b"-1000000", b"1000000.00000",
-    b"-1000000.00000", b"1000000.00001", b"-1000000.00001", b"999999.99999", b"-999999.99999", b"9999999", b"-9999999",
-    b"00000001", b"0000001", b"-0000001", b"-00000001", b"--1", b"+1", b"-.5", b"-1.", b"1.123456", b".", b"-.", b" 1",
-    b"1-", b"1,5", b"1000001", b"- 1", b"1e2", b"\xFF", b"-1\r", b"5.5.5", b"0-1", b"1000000.000000",
-];
-const NAME_CASES: &[&[u8]] = &[
-    b"", b",", b"a,", b",a", b"a,,b", b",,", b"a;b", b"a b", b" a", b"a ", b"a,a", b"NONE", b"a\r",
-    b"1,2,3,4,5,6,7,8,9",
-];
-const TYPE_CASES: &[&[u8]] = &[
-    b"", b"fw", b"XX", b"OP_", b"OP_SWG", b"SWGG", b"OP_SP", b"OP", b"OP_FU", b"OP_FW", b"OP_SW", b"OP-SP", b"F",
-    b"FW ", b" FW", b"OP_OT", b"SP\0", b"OP_AU", b"S", b"\x80",
-];
-const STYLE_CASES: &[&[u8]] =
-    &[b"", b"A", b"Z", b"a", b"z", b"AB", b"1", b" ", b"@", b"[", b"\0", b"\xC4", b"\r", b"A "];
-
-/// Input lines that are no commands, or would be but for a byte.
-const NOISE: &[&[u8]] = &[
-    b"", b"", b"T;", b"t", b"w", b"x", b"TT", b"X;", b"W;", b" T", b"T ", b"T\r", b"W\r", b"X\r", b"P", b"R", b"K",
-    b"F", b"I", b"p;", b"r;A0000116N.DE", b"Z", b"A", b"R 66 0 -", b"#", b"\0", b"Q;abc", b"PP;", b"P ;", b";", b";P",
-    b"R,A0000116N.DE", b"P:", b"\xEF\xBB\xBFT", b"TRD;T-1;DE-1;XEER;C0643778W.EU;B;N;100;24;53.5;", b"L;", b"\r", b" ",
-    b"\xFF", b"X ", b"W W", b"T\0", b"P;", b"K;", b"F;", b"I;", b"R;", b"P;;;;;;;;;;;", b"P;;;;;;;;;;",
-    b"P;;;;;;;;;;;;", b"K;;;;", b"K;;;", b"K;;;;;", b"R;;", b"F;____", b"F;_", b"I; ", b"P; ", b"P;\0", b"P;\r",
-    b"X\x80", b"--explain",
-];
-
-/// One byte of the text becomes an odd one: the first, the last or any.
-fn spoil(rng: &mut Rng, text: &mut Text) {
-    let last = text.len() - 1;
-    let any = rng.range(0, last);
-    let at = *rng.pick(&[0, last, any]);
-    text[at] = *rng.pick(ODD_BYTES);
-}
-
-fn id_case(rng: &mut Rng, most: usize) -> Text {
-    match rng.below(7) {
-        0 => Vec::new(),
-        1 => rng.id(most, most),
-        2 => rng.id(most + 1, most + 1),
-        3 => rng.id(1, 3),
-        _ => {
-            let mut id = rng.id(1, 12);
-            spoil(rng, &mut id);
-            id
-        }
-    }
-}
-
-fn names_case(rng: &mut Rng) -> Text {
-    let sizes = match rng.below(8) {
-        0 => vec![1; 8],
-        1 => vec![1; 9],
-        2 => vec![32],
-        3 => vec![33],
-        4 => vec![2, 33, 1],
-        5 => vec![32; 8],
-        6 => return id_case(rng, 32),
-        _ => return rng.text(NAME_CASES),
-    };
-    let names: Vec<Text> = sizes.into_iter().map(|size| rng.id(size, size)).collect();
-    names.join(&b',')
-}
-
-fn acer_case(rng: &mut Rng, code: &[u8]) -> Text {
-    let mut code = code.to_vec();
-    match rng.below(12) {
-        0 => code.clear(),
-        1 => drop(code.pop()),
-        2 => code.push(*rng.pick(b"A .;\r")),
-        3 => code[9] = *rng.pick(b",-_: 0A/"),
-        4 => code[0] = b'a',
-        5 => code[10] = *rng.pick(b"0de@["),
-        6 => code[11] = *rng.pick(b"9e@["),
-        7 => code.swap(8, 9),
-        8 => code.insert(0, b' '),
-        9 => code.extend_from_within(..),
-        10 => drop(code.remove(0)),
-        _ => spoil(rng, &mut code),
-    }
-    code
-}
-
-/// A case for a field of a report line; fields are numbered from 1.
-fn report_case(rng: &mut Rng, field: usize) -> Text {
-    match field {
-        1 => rng.text(KIND_CASES),
-        2 => id_case(rng, 52),
-        3 => id_case(rng, 32),
-        4 => rng.text(VENUE_CASES),
-        5 => {
-            let code = rng.acer();
-            acer_case(rng, &code)
-        }
-        6 => rng.text(SIDE_CASES),
-        7 => rng.text(ACTION_CASES),
-        8 => rng.text(TIME_CASES),
-        9 => rng.text(QUANTITY_CASES),
-        10 => rng.text(PRICE_CASES),
-        _ => names_case(rng),
-    }
-}
-
-fn name_parts(rng: &mut Rng, entity: &[u8]) -> Vec<Text> {
-    let date = rng.bytes(8, b"0123456789");
-    let length = *rng.pick(&[1, 5, 5, 12, 12, 32]);
-    let table = rng.bytes(length, b"AZaz09REMITtable");
-    let version = vec![b'V', *rng.pick(b"0129")];
-    let length = *rng.pick(&[1, 1, 2, 3, 9]);
-    let mut number = rng.bytes(length, b"0123456789");
-    number.extend(b".xml");
-    vec![date, table, version, entity.to_vec(), number]
-}
-
-/// The parts of a file name with one damaged, or a part too much or too few.
-fn name_case(rng: &mut Rng, entity: &[u8]) -> Text {
-    let mut parts = name_parts(rng, entity);
-    let letters = *rng.pick(&[32, 33]);
-    match rng.below(9) {
-        0 => parts[0] = rng.text(&[b"2015071", b"201507150", b"2015O715", b"", b"2015-715", b" 0150715", b"0000000:"]),
-        1 => parts[1] = rng.text(&[b"", b"A-1", b"A_1", b"A 1", b"\xC3\xA4", b"@", b"[", b"`", b"{", b"a.", b"A\0"]),
-        2 => parts[2] = rng.text(&[b"V", b"V12", b"v1", b"1", b"VA", b"", b"V:", b"V/", b"1V", b"V 1", b"U9"]),
-        3 => parts[3] = acer_case(rng, entity),
-        4 => {
-            parts[4] = rng.text(&[
-                b".xml", b"1234567890.xml", b"1.XML", b"1.xm", b"1.xml ", b"1xml", b"1..xml", b"a.xml", b"1", b"",
-                b"1.xml.xml", b"-1.xml", b"1.xml\r", b"1.xml_", b"1 .xml", b"0000000000.xml", b"1.xlm", b"1_xml",
-            ])
-        }
-        5 => parts[1] = rng.bytes(letters, b"AZaz09"),
-        6 => drop(parts.remove(rng.below(5))),
-        7 => parts.insert(rng.below(6), rng.text(&[b"", b"x", b"V1", b"20150715"])),
-        _ => {
-            let mut name = parts.join(&b'_');
-            spoil(rng, &mut name);
-            return name;
-        }
-    }
-    parts.join(&b'_')
-}
-
-/// Damages a line at random places.
-fn mutate(rng: &mut Rng, line: &mut Text) {
-    for _ in 0..rng.range(1, 3) {
-        let at = rng.below(line.len().max(1)).min(line.len());
-        let byte = if rng.percent(80) { *rng.pick(ODD_BYTES) } else { rng.below(256) as u8 };
-        match rng.below(8) {
-            _ if line.is_empty() => line.push(byte),
-            0 | 1 => line[at] = byte,
-            2 => line.insert(at, byte),
-            3 => drop(line.remove(at)),
-            4 if rng.percent(30) => line.truncate(at),
-            4 => line[at] ^= 1 << rng.below(8),
-            5 => line[at] ^= 0x20,
-            6 => line.extend_from_within(at..),
-            _ => line.push(byte),
-        }
-    }
-}
-
-// ---------- The mix of an input
 
 /// What the generator does next; each makes one input line or a few.
 const STEPS: [fn(&mut Generator); 9] = [
@@ -285,25 +30,72 @@ struct Mix {
     weights: [usize; 9],
     /// The least and the most number of keys.
     keys: (usize, usize),
-    /// In percent: actions that need not fit, times that fall, keys given up when they have no life.
+    /// In percent: actions that need not fit, times that fall, keys given up that have no life.
     misfit: usize,
     falling: usize,
     renewal: usize,
 }
 
-/// The mix goes by the remainder of the starting number by 8.
 const MIXES: [Mix; 8] = [
     // Good lines over few keys; over more keys; and over so many that the register is full.
-    Mix { weights: [930, 8, 3, 2, 1, 6, 45, 4, 1], keys: (2, 12), misfit: 8, falling: 3, renewal: 3 },
-    Mix { weights: [920, 8, 3, 2, 1, 12, 50, 3, 1], keys: (30, 120), misfit: 5, falling: 2, renewal: 5 },
-    Mix { weights: [960, 4, 2, 1, 1, 2, 28, 1, 1], keys: (400, 900), misfit: 4, falling: 1, renewal: 2 },
+    Mix {
+        weights: [930, 8, 3, 2, 1, 6, 45, 4, 1],
+        keys: (2, 12),
+        misfit: 8,
+        falling: 3,
+        renewal: 3,
+    },
+    Mix {
+        weights: [920, 8, 3, 2, 1, 12, 50, 3, 1],
+        keys: (30, 120),
+        misfit: 5,
+        falling: 2,
+        renewal: 5,
+    },
+    Mix {
+        weights: [960, 4, 2, 1, 1, 2, 28, 1, 1],
+        keys: (400, 900),
+        misfit: 4,
+        falling: 1,
+        renewal: 2,
+    },
     // Damaged fields; many files; long lists.
-    Mix { weights: [300, 560, 50, 20, 5, 15, 30, 15, 5], keys: (5, 40), misfit: 20, falling: 10, renewal: 20 },
-    Mix { weights: [450, 30, 20, 20, 10, 330, 80, 50, 10], keys: (5, 40), misfit: 15, falling: 8, renewal: 10 },
-    Mix { weights: [400, 60, 10, 330, 120, 30, 30, 15, 5], keys: (20, 90), misfit: 10, falling: 5, renewal: 20 },
+    Mix {
+        weights: [300, 560, 50, 20, 5, 15, 30, 15, 5],
+        keys: (5, 40),
+        misfit: 20,
+        falling: 10,
+        renewal: 20,
+    },
+    Mix {
+        weights: [450, 30, 20, 20, 10, 330, 80, 50, 10],
+        keys: (5, 40),
+        misfit: 15,
+        falling: 8,
+        renewal: 10,
+    },
+    Mix {
+        weights: [400, 60, 10, 330, 120, 30, 30, 15, 5],
+        keys: (20, 90),
+        misfit: 10,
+        falling: 5,
+        renewal: 20,
+    },
     // A bit of all; bytes damaged at random.
-    Mix { weights: [500, 130, 100, 60, 30, 60, 60, 40, 20], keys: (10, 300), misfit: 25, falling: 15, renewal: 10 },
-    Mix { weights: [330, 60, 450, 20, 20, 30, 40, 40, 10], keys: (3, 60), misfit: 15, falling: 10, renewal: 10 },
+    Mix {
+        weights: [500, 130, 100, 60, 30, 60, 60, 40, 20],
+        keys: (10, 300),
+        misfit: 25,
+        falling: 15,
+        renewal: 10,
+    },
+    Mix {
+        weights: [330, 60, 450, 20, 20, 30, 40, 40, 10],
+        keys: (3, 60),
+        misfit: 15,
+        falling: 10,
+        renewal: 10,
+    },
 ];
 
 // ---------- The generator
@@ -349,16 +141,19 @@ struct Generator {
     out: Text,
     lines: usize,
     target: usize,
+    capacity: usize,
     keys: usize,
     many_names: bool,
     entities: Vec<Text>,
     participants: Vec<Text>,
     contracts: Vec<Contract>,
-    /// Lines that add to the lists, or try to, and the names in them: below the limits, the lists have room for sure.
+    /// Lines that add to the lists, or try to, and the names in them: below the limits, the lists
+    /// have room for sure.
     entity_lines: usize,
     contract_lines: usize,
     listed_names: usize,
-    /// Errors for lives that damaged lines may have entered under keys that are not among the slots.
+    /// Errors for lives that damaged lines may have entered under keys that are not among the
+    /// slots.
     strays: Vec<Text>,
     slots: Vec<Slot>,
     held: usize,
@@ -368,16 +163,26 @@ struct Generator {
     entity: Text,
 }
 
+/// So many input lines of `checker`. The mix goes by the remainder of the seed by 8.
+pub fn checker(seed: u64, lines: usize) -> Text {
+    mixed(seed, (seed % 8) as usize, lines, CAPACITY)
+}
+
+/// So many input lines of a mix, the good ones for a checker that holds so many lives.
+pub fn mixed(seed: u64, mix: usize, lines: usize, capacity: usize) -> Text {
+    Generator::new(seed, &MIXES[mix], lines, capacity).run()
+}
+
 impl Generator {
-    fn new(seed: u64, target: usize) -> Generator {
+    fn new(seed: u64, mix: &'static Mix, target: usize, capacity: usize) -> Generator {
         let mut rng = Rng::new(seed);
-        let mix = &MIXES[(seed % 8) as usize];
         let participants = (0..rng.range(1, 4)).map(|_| rng.acer()).collect();
         Generator {
             mix,
             out: Vec::new(),
             lines: 0,
             target,
+            capacity,
             keys: rng.range(mix.keys.0, mix.keys.1),
             many_names: rng.percent(50),
             entities: Vec::new(),
@@ -524,8 +329,11 @@ impl Generator {
         let size = *self.rng.pick(&[6, 6, 6, 32]);
         let names: Vec<Text> = (0..count).map(|_| self.rng.id(size, size)).collect();
         let kind = self.rng.text(&TYPES);
-        let style =
-            if kind.starts_with(b"OP") || self.rng.percent(30) { self.rng.bytes(1, b"ACEZ") } else { Vec::new() };
+        let style = if kind.starts_with(b"OP") || self.rng.percent(30) {
+            self.rng.bytes(1, b"ACEZ")
+        } else {
+            Vec::new()
+        };
         let text = [id.clone(), kind, style, names.join(&b',')].join(&b';');
         if self.contract_lines < 63 && self.listed_names + count <= 255 {
             self.contracts.push(Contract { id, names });
@@ -533,18 +341,26 @@ impl Generator {
         self.command(b'K', &text);
     }
 
-    /// A contract that misses in one or more ways: damaged fields, one listed before, no style, a name twice.
+    /// A contract that misses in one or more ways: damaged fields, one listed before, no style, a
+    /// name twice.
     fn odd_contract(&mut self) {
-        let mut fields = vec![self.rng.id(1, 8), self.rng.text(&TYPES), b"E".to_vec(), self.rng.id(1, 4)];
+        let mut fields =
+            vec![self.rng.id(1, 8), self.rng.text(&TYPES), b"E".to_vec(), self.rng.id(1, 4)];
         for _ in 0..self.rng.range(1, 2) {
             match self.rng.below(9) {
                 0 => fields[0] = id_case(&mut self.rng, 32),
                 1 => fields[1] = self.rng.text(TYPE_CASES),
                 2 => fields[2] = self.rng.text(STYLE_CASES),
                 3 => fields[3] = names_case(&mut self.rng),
-                4 | 5 if !self.contracts.is_empty() => fields[0] = self.rng.pick(&self.contracts).id.clone(),
+                4 | 5 if !self.contracts.is_empty() => {
+                    fields[0] = self.rng.pick(&self.contracts).id.clone()
+                }
                 6 => fields[2].clear(),
-                7 => fields[3] = self.rng.text(&[b"a,a", b"a,b,a", b"x,A,a,A", b"1,2,3,4,5,6,7,1", b"a,aa,a"]),
+                7 => {
+                    fields[3] = self
+                        .rng
+                        .text(&[b"a,a", b"a,b,a", b"x,A,a,A", b"1,2,3,4,5,6,7,1", b"a,aa,a"])
+                }
                 _ if self.rng.percent(50) => fields.push(self.rng.text(&[b"", b"x"])),
                 _ if fields.len() > 4 => fields.truncate(4),
                 _ => {
@@ -630,10 +446,15 @@ impl Generator {
 
     // ---------- Report lines
 
-    /// Ids that are alike: long ones that differ only near their end, other cases of letters, one that begins another.
+    /// Ids that are alike: long ones that differ only near their end, other cases of letters, one
+    /// that begins another.
     fn new_id(&mut self) -> Text {
         let number = self.rng.below(1_000_000);
-        let alike = if self.slots.is_empty() { b"T".to_vec() } else { self.rng.pick(&self.slots).id.clone() };
+        let alike = if self.slots.is_empty() {
+            b"T".to_vec()
+        } else {
+            self.rng.pick(&self.slots).id.clone()
+        };
         match self.rng.below(12) {
             0 => format!("{number:0>52}").into_bytes(),
             1 => self.rng.id(1, 3),
@@ -645,7 +466,8 @@ impl Generator {
 
     fn new_slot(&mut self) -> Slot {
         let none = Contract { id: b"DE-0".to_vec(), names: Vec::new() };
-        let contract = if self.contracts.is_empty() { none } else { self.rng.pick(&self.contracts).clone() };
+        let contract =
+            if self.contracts.is_empty() { none } else { self.rng.pick(&self.contracts).clone() };
         let slot = Slot {
             kind: *self.rng.pick(&KINDS),
             id: self.new_id(),
@@ -661,7 +483,12 @@ impl Generator {
             return slot;
         }
         // A key that differs from another in one of its six parts.
-        let mut sibling = Slot { held: Held::Nothing, time: 0, doubtful: false, ..self.rng.pick(&self.slots).clone() };
+        let mut sibling = Slot {
+            held: Held::Nothing,
+            time: 0,
+            doubtful: false,
+            ..self.rng.pick(&self.slots).clone()
+        };
         match self.rng.below(6) {
             0 => sibling.kind = KINDS[usize::from(sibling.kind == KINDS[0])],
             1 => sibling.side = SIDES[usize::from(sibling.side == SIDES[0])],
@@ -692,8 +519,8 @@ impl Generator {
         }
     }
 
-    /// The fields of a report line that has its form and mostly fits. If it may be damaged afterwards, it is not certain
-    /// what is held under its key then.
+    /// The fields of a report line that has its form and mostly fits. If it may be damaged
+    /// afterwards, it is not certain what is held under its key then.
     fn report(&mut self, certain: bool) -> Vec<Text> {
         if self.slots.len() < self.keys {
             let slot = self.new_slot();
@@ -717,7 +544,16 @@ impl Generator {
         let time = if self.rng.percent(3) { format!("{time:010}") } else { time.to_string() };
         let (quantity, price) = (self.quantity(), self.price());
         let (kind, venue, side) = (slot.kind.to_vec(), slot.venue.to_vec(), slot.side.to_vec());
-        let fields = [kind, slot.id, contract, venue, slot.participant, side, vec![action], time.into_bytes()];
+        let fields = [
+            kind,
+            slot.id,
+            contract,
+            venue,
+            slot.participant,
+            side,
+            vec![action],
+            time.into_bytes(),
+        ];
         fields.iter().cloned().chain([quantity, price, names].iter().cloned()).collect()
     }
 
@@ -739,7 +575,9 @@ impl Generator {
             (_, 0) => *self.rng.pick(&[0, MAX_TIME, MAX_TIME - 1]),
             (Held::Nothing, 1..=40) => self.clock.saturating_sub(step * 100),
             (Held::Nothing, _) => self.clock,
-            _ if self.rng.percent(self.mix.falling) => slot.time.saturating_sub(*self.rng.pick(&[1, 1, 2, step])),
+            _ if self.rng.percent(self.mix.falling) => {
+                slot.time.saturating_sub(*self.rng.pick(&[1, 1, 2, step]))
+            }
             (_, 1..=30) => slot.time,
             _ => slot.time + step,
         };
@@ -752,7 +590,7 @@ impl Generator {
             return;
         }
         match (action, slot.held) {
-            (b'N', Held::Nothing) if self.held < CAPACITY => {
+            (b'N', Held::Nothing) if self.held < self.capacity => {
                 slot.held = Held::Open;
                 self.held += 1;
             }
@@ -772,7 +610,11 @@ impl Generator {
         if slot.venue == b"XBIL" {
             let unlisted = self.rng.id(0, 32);
             let contract = self.rng.pick(&[slot.contract.id.clone(), Vec::new(), unlisted]).clone();
-            let names = if self.rng.percent(80) { Vec::new() } else { self.rng.text(&[b"a", b"a,a", b"NBP,TTF"]) };
+            let names = if self.rng.percent(80) {
+                Vec::new()
+            } else {
+                self.rng.text(&[b"a", b"a,a", b"NBP,TTF"])
+            };
             return (contract, names);
         }
         let listed = &slot.contract.names;
@@ -797,7 +639,9 @@ impl Generator {
 
     fn quantity(&mut self) -> Text {
         if self.rng.percent(3) {
-            return self.rng.text(&[b"10000000", b"10000000.00000", b"9999999.99999", b"0", b"0.00000", b"0.00001"]);
+            return self.rng.text(&[
+                b"10000000", b"10000000.00000", b"9999999.99999", b"0", b"0.00000", b"0.00001",
+            ]);
         }
         self.decimal(2000, 8).into_bytes()
     }
@@ -805,7 +649,9 @@ impl Generator {
     fn price(&mut self) -> Text {
         match self.rng.below(30) {
             0..=2 => Vec::new(),
-            3 => self.rng.text(&[b"1000000", b"-1000000", b"-1000000.00000", b"-0", b"-0.00001", b"0", b"0000001"]),
+            3 => self.rng.text(&[
+                b"1000000", b"-1000000", b"-1000000.00000", b"-0", b"-0.00001", b"0", b"0000001",
+            ]),
             4..=10 => ["-".to_string(), self.decimal(500, 7)].concat().into_bytes(),
             _ => self.decimal(500, 7).into_bytes(),
         }
@@ -813,7 +659,8 @@ impl Generator {
 
     // ---------- Damage
 
-    /// A report line with damaged fields, a wrong number of fields, or fields that do not fit the contracts.
+    /// A report line with damaged fields, a wrong number of fields, or fields that do not fit the
+    /// contracts.
     fn damaged_report(&mut self) {
         let mut fields = self.report(false);
         match self.rng.below(12) {
@@ -836,12 +683,16 @@ impl Generator {
         self.doubtful_report(&fields.join(&b';'));
     }
 
-    /// A well-formed line with damaged bytes. A damaged file command is followed by an `X`, so that the picture holds.
+    /// A well-formed line with damaged bytes. A damaged file command is followed by an `X`, so that
+    /// the picture holds.
     fn mutated(&mut self) {
         let mut line = match self.rng.below(20) {
-            0 => [b"F;".to_vec(), name_parts(&mut self.rng, &self.entity.clone()).join(&b'_')].concat(),
+            0 => [b"F;".to_vec(), name_parts(&mut self.rng, &self.entity.clone()).join(&b'_')]
+                .concat(),
             1 => [b"I;".to_vec(), self.entity.clone()].concat(),
-            2 => [b"K;".to_vec(), self.rng.id(1, 6), b";SWG;A;".to_vec(), self.rng.id(1, 6)].concat(),
+            2 => {
+                [b"K;".to_vec(), self.rng.id(1, 6), b";SWG;A;".to_vec(), self.rng.id(1, 6)].concat()
+            }
             3 => [b"R;".to_vec(), self.some_entity()].concat(),
             4 => self.rng.text(NOISE),
             _ => [b"P;".to_vec(), self.report(false).join(&b';')].concat(),
@@ -860,39 +711,33 @@ impl Generator {
         }
     }
 
-    /// Lines about as long as a line may be, and the longest report line that has its form (416 bytes).
+    /// Lines about as long as a line may be, and the longest report line that has its form (416
+    /// bytes).
     fn length(&mut self) {
         if self.rng.percent(15) {
             let names: Vec<Text> = (0..8).map(|_| self.rng.id(32, 32)).collect();
-            let (id, contract, names) = (self.rng.id(52, 52), self.rng.id(32, 32), names.join(&b','));
+            let (id, contract, names) =
+                (self.rng.id(52, 52), self.rng.id(32, 32), names.join(&b','));
             let middle = b"XBIL;C0643778W.EU;S;N;4294967295;10000000.00000;-1000000.00000".to_vec();
-            return self.doubtful_report(&[b"TRD".to_vec(), id, contract, middle, names].join(&b';'));
+            return self
+                .doubtful_report(&[b"TRD".to_vec(), id, contract, middle, names].join(&b';'));
         }
-        let size = *self.rng.pick(&[511, 512, 513, 514, 514, 515, 515, 516, 1030, 5000, 8192, 65_535, 65_536, 70_000]);
+        let size = *self.rng.pick(&[
+            511, 512, 513, 514, 514, 515, 515, 516, 1030, 5000, 8192, 65_535, 65_536, 70_000,
+        ]);
         let mut line = match self.rng.below(8) {
             0 => b"P;".to_vec(),
             1 => [b"P;".to_vec(), self.report(false).join(&b';')].concat(),
             2 => b"P;TRD;".to_vec(),
             3 => b"K;DE-1;FW;;".to_vec(),
             4 => [b"R;".to_vec(), self.some_entity()].concat(),
-            5 => [b"F;".to_vec(), name_parts(&mut self.rng, &self.entity.clone()).join(&b'_')].concat(),
+            5 => [b"F;".to_vec(), name_parts(&mut self.rng, &self.entity.clone()).join(&b'_')]
+                .concat(),
             6 => [b"I;".to_vec(), self.entity.clone()].concat(),
             _ => self.rng.text(&[b"T", b"W", b"X", b"", b"T;", b"Q;"]),
         };
         let fill = *self.rng.pick(b"x ;0,\0\r\xFF");
         line.resize(size.max(line.len()), fill);
         self.emit(&line);
-    }
-}
-
-fn main() {
-    let numbers: Vec<u64> = std::env::args().skip(1).filter_map(|argument| argument.parse().ok()).collect();
-    if numbers.len() != 2 || std::env::args().count() != 3 {
-        eprintln!("generate SEED LINES");
-        std::process::exit(2);
-    }
-    let out = Generator::new(numbers[0], numbers[1] as usize).run();
-    if std::io::stdout().write_all(&out).is_err() {
-        std::process::exit(1);
     }
 }
