@@ -16,7 +16,7 @@ pub struct CompletedRun<'s, S: Store, M: Measure> {
 }
 
 impl<'s, S: Store, M: Measure> CompletedRun<'s, S, M> {
-    // The checker, to be read: its mark is not its own, so it makes no tokens.
+    /// The checker, to be read: what it holds after the run, with no way to call it again.
     pub fn checker(&self) -> &Checker<'static, 's, S, M>
         ensures { result.now ≡ self.now.checker }
     {

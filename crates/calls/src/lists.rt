@@ -18,7 +18,8 @@ use register::Register;
 use std::alloc::{AllocError, Global};
 
 impl<'id, 's, S: Store, M: Measure> Checker<'id, 's, S, M> {
-    // A checker that has had no calls, with room for as many lives as the store, which is emptied. Its tokens have its mark.
+    /// A checker that has had no calls, with room for as many lives as the store, which is emptied. The
+    /// tokens of its files have the lifetime of its mark. Memory is wanted for the lists alone.
     pub fn new(
         heap: Global,
         store: &'s mut S,

@@ -49,8 +49,10 @@ impl<'s, S: Store, M: Measure> CompletedRun<'s, S, M> {
 }
 
 impl<'s, S: Store, M: Measure> Checker<'static, 's, S, M> {
-    // A new checker over the store, and its answers to a whole list of calls. The lines judged in a file are the calls on it that were answered
-    // neither 66 nor 9; a file ends at most once, and its receipt has its counts. Each life is what the accepted lines of its key tell.
+    /// A new checker over the store, and its answers to a whole list of calls. The lines judged in a
+    /// file are the calls on it that were answered neither 66 nor 9; a file ends at most once, and its
+    /// receipt has its counts. Each life is what the accepted lines of its key tell. Places for files
+    /// and answers are reserved first; where memory is wanting, there is no run.
     pub fn run(
         heap: Global,
         store: &'s mut S,

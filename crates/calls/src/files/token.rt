@@ -11,13 +11,15 @@ pub struct AlreadyIdentified;
 // Ties a token to its checker.
 pub(crate) type Brand<'id> = PhantomData<&'id mut &'id ()>;
 
-// What makes one checker, and ties its tokens to it. Each mark has a lifetime of its own, which no other mark has.
+/// What one checker is made with. Each mark has a lifetime of its own, which the checker and the tokens
+/// of its files have too: so a token given to another checker does not build.
 #[derive(Drop)]
 pub struct Mark<'id> {
     brand: Brand<'id>,
 }
 
-// Does work with a new mark.
+/// Gives a new mark to `work`, and answers what that answers. The checker that `work` makes with it,
+/// and the tokens of that checker's files, stay inside.
 pub fn with_mark<R, F: for<'id> FnOnce(Mark<'id>) -> R>(work: F) -> R
     requires { (mark : _) → F.pre work mark }
     ensures { (mark : _) × F.post work mark result }
@@ -35,6 +37,8 @@ impl<'id> Mark<'id> {
     }
 }
 
+/// The token of a file, whose type says where the file stands: one named (`NamedFile`), or identified
+/// (`IdentifiedFile`). It is spent by ending its file, and by nothing else.
 pub struct FileToken<'id, S> {
     number: usize,
     stands: PhantomData<S>,
@@ -56,7 +60,7 @@ impl<'id, S> FileToken<'id, S> {
         }
     }
 
-    // The number of its file.
+    /// The number of its file, in the order of naming, from 0.
     pub fn number(&self) -> usize
         ensures { result ≡ self.now.number }
     {
