@@ -13,8 +13,8 @@ use Rattle.filing.specs.declared.entities.EntityFault.{EntityFault}
 use Rattle.filing.specs.Entities.{entity_rows}
 use Rattle.filing.specs.Entities as entity_list
 use Rattle.filing.specs.Faults.{refused_by}
-use Rattle.filing.specs.Files.{Identified, Ended, File, at_stage, identifying_rows, withdrawing_rows, closing_rows}
-use Rattle.calls.specs.FilesAfter.{no_file, file_of, identified_in, withdrawn_in, closed_in}
+use Rattle.filing.specs.Files.{File}
+use Rattle.calls.specs.FilesAfter.{no_file, file_of}
 use Rattle.calls.specs.FilesHeld.{Filed, with_files}
 
 -- the file of a number is what is read there, or none

@@ -25,7 +25,10 @@ impl<'s, S: Store, M: Measure> CompletedRun<'s, S, M> {
         ensures { IfOk result (λ run. HasRun M.Measure (S.room store.old) [] run) }
     {
         let mut checker = Checker::new(heap, store, Mark::new())?;
-        checker.reserve(calls.iter().filter(|call| matches!(call, Call::NameFile(_))).count())?;
+        let names = calls
+            .iter()
+            .filter(|call| matches!(call, Call::NameFile(_)));
+        checker.reserve(names.count())?;
         Ok(CompletedRun {
             checker,
             answers: Vec::with_capacity(heap, calls.len())?,

@@ -1,13 +1,13 @@
 -- What is left of a list of calls, and what it does when it is sent again.
-use Rattle.std.specs.Prelude.{◌≡◌, ℕ, Bool, true, false, List, [], ◌∷◌, length, Ok, Err, Result}
+use Rattle.std.specs.Prelude.{◌≡◌, ℕ, Bool, true, false, List, [], ◌∷◌, length, Err, Result}
 use Rattle.std.specs.List.{AllZip}
 use Rattle.measure.specs.declared.measure.Measure.{Ghosts}
 use Rattle.life.specs.Lives.{Same}
-use Rattle.book.specs.Book.{Book, empty_book, Call, AddEntity, AddContract, NameFile, Identify, Withdraw, Close, Judge, LookUp, Total, Answer, Accepted}
+use Rattle.book.specs.Book.{Book, empty_book, Call, Judge, Answer, Accepted}
 use Rattle.book.specs.Laws.{log, survivors, FewerLines}
 use Rattle.calls.specs.Follows.{Ran}
 use Rattle.resends.specs.declared.sending.ResendError.{ResendError}
-use Rattle.resends.specs.declared.sending.ResendError.TheVariants.{OtherCapacity, NoMemory}
+use Rattle.resends.specs.declared.sending.ResendError.TheVariants.{OtherCapacity}
 
 -- a judged line is answered 'accepted'
 abbrev pub LineAccepted : Call → Answer → Type 0
