@@ -13,7 +13,7 @@ use Rattle.life.specs.Rules.{new_life, modified, cancelled}
 use Rattle.life.proofs.ByKey.{cond_same}
 use Rattle.life.proofs.KeyOrder.{parts_same, parts_eq}
 use Rattle.life.proofs.Lives.{same_turned, look_erase, look_altered, look_apart}
-use Rattle.book.specs.Book.{Book, empty_book, Call, AddEntity, AddContract, NameFile, Identify, Withdraw, Close, Judge, LookUp, Total, told_by, key_of, verdict, acted, applied, changed, after, end}
+use Rattle.book.specs.Book.{Book, empty_book, Call, Judge, told_by, key_of, verdict, acted, applied, changed, after, end}
 use Rattle.book.specs.Laws.{a_line, subject, log, Deed, Did, deed, deeds, GoesOn, some_cancel, last_time, last_quantity, last_price, Tells, LifeLaw}
 
 -- ---- One line after another
@@ -54,24 +54,10 @@ abbrev Traces : Call → Book → Option (ℕ × ℕ) → Type 0
 Traces c b v = (k : KeyParts) (ds : List Deed) → traced (look k (changed b c v).lives) ds ≡ traced (look k b.lives) (deed k (subject b.contracts c) v ds)
 
 call_traces : (c : Call) (b : Book) (v : Option (ℕ × ℕ)) → Traces c b v
-call_traces (AddEntity bs) b None k ds = refl
-call_traces (AddEntity bs) b (Some r) k ds = refl
-call_traces (AddContract bs) b None k ds = refl
-call_traces (AddContract bs) b (Some r) k ds = refl
-call_traces (NameFile bs) b None k ds = refl
-call_traces (NameFile bs) b (Some r) k ds = refl
-call_traces (Identify n bs) b None k ds = refl
-call_traces (Identify n bs) b (Some r) k ds = refl
-call_traces (Withdraw n) b None k ds = refl
-call_traces (Withdraw n) b (Some r) k ds = refl
-call_traces (Close n) b None k ds = refl
-call_traces (Close n) b (Some r) k ds = refl
 call_traces (Judge n bs) b None k ds = applied_made (key_of (told_by b.contracts bs)) k (told_by b.contracts bs).says b.lives ds
 call_traces (Judge n bs) b (Some r) k ds = refl
-call_traces (LookUp bs) b None k ds = refl
-call_traces (LookUp bs) b (Some r) k ds = refl
-call_traces Total b None k ds = refl
-call_traces Total b (Some r) k ds = refl
+call_traces _ b None k ds = refl
+call_traces _ b (Some r) k ds = refl
 
 -- a run leaves of each life what its lines make of it
 run_traces : (cs : List Call) (b : Book) (k : KeyParts) → look k (end b cs).lives ≡ traced (look k b.lives) (deeds k (log b cs))

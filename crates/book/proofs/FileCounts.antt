@@ -10,7 +10,7 @@ use Rattle.filing.specs.Names.{name_form}
 use Rattle.text.specs.Rows.{Row, first_fit}
 use Rattle.text.proofs.Tables.{or_else}
 use Rattle.filing.specs.Files.{Stage, Named, Identified, Ended, File, named_file, at_stage, only_named, identified, taking_rows, withdrawing_rows, closing_rows, identifying_rows, one_accepted, one_refused}
-use Rattle.book.specs.Book.{Book, empty_book, no_file, file_of, Call, AddEntity, AddContract, NameFile, Identify, Withdraw, Close, Judge, LookUp, Total, Answer, Receipt, receipt, asked, verdict, refused_in, changed, after, answered, answer, answers, end}
+use Rattle.book.specs.Book.{Book, empty_book, no_file, file_of, Call, NameFile, Identify, Withdraw, Close, Judge, Answer, Receipt, receipt, asked, verdict, refused_in, changed, after, answered, answer, answers, end}
 use Rattle.book.specs.FileLaws.{Said, was_judged, was_accepted, was_refused, was_ended, Counts, FilesLaw}
 use Rattle.book.proofs.Tables.{none_fits, passed, fit_parts, from_line}
 use Rattle.book.proofs.Tidy.{file_takes}
@@ -154,23 +154,13 @@ line_counted n m bs b (Some r) e = go (first_fit taking_rows (file_of b.files m)
         (refused_adds (file_of b.files n) f (eqb m n) (here m n b.files))))
 
 call_counted : (n : ℕ) (c : Call) (b : Book) (v : Option (ℕ × ℕ)) → verdict b c ≡ v → Counted n c (answered b c v) b.files (changed b c v).files
-call_counted n (AddEntity bs) b (Some r) e = same_counts _
-call_counted n (AddEntity bs) b None e = same_counts _
-call_counted n (AddContract bs) b (Some r) e = same_counts _
-call_counted n (AddContract bs) b None e = same_counts _
-call_counted n (NameFile bs) b (Some r) e = same_counts _
-call_counted n (NameFile bs) b None e = pushed _ b.files n
-call_counted n (Identify m bs) b (Some r) e = same_counts _
-call_counted n (Identify m bs) b None e = staged Identified b.files m n
-call_counted n (Withdraw m) b (Some r) e = same_counts _
-call_counted n (Withdraw m) b None e = staged Ended b.files m n
-call_counted n (Close m) b (Some r) e = same_counts _
-call_counted n (Close m) b None e = staged Ended b.files m n
 call_counted n (Judge m bs) b v e = line_counted n m bs b v e
-call_counted n (LookUp bs) b (Some r) e = same_counts _
-call_counted n (LookUp bs) b None e = same_counts _
-call_counted n Total b (Some r) e = same_counts _
-call_counted n Total b None e = same_counts _
+call_counted n (NameFile bs) b None e = pushed _ b.files n
+call_counted n (Identify m bs) b None e = staged Identified b.files m n
+call_counted n (Withdraw m) b None e = staged Ended b.files m n
+call_counted n (Close m) b None e = staged Ended b.files m n
+call_counted n _ b (Some r) e = same_counts _
+call_counted n _ b None e = same_counts _
 
 -- ---- What a run adds
 
@@ -293,13 +283,7 @@ refused_stage f = go (is_some (first_fit taking_rows f))
     go false = omega arith
 
 call_ends : (n : ℕ) (c : Call) (b : Book) (v : Option (ℕ × ℕ)) → verdict b c ≡ v → Ends n c (answered b c v) b.files (changed b c v).files
-call_ends n (AddEntity bs) b (Some r) e = stays_done b.files n
-call_ends n (AddEntity bs) b None e = stays_done b.files n
-call_ends n (AddContract bs) b (Some r) e = stays_done b.files n
-call_ends n (AddContract bs) b None e = stays_done b.files n
-call_ends n (NameFile bs) b (Some r) e = stays_done b.files n
 call_ends n (NameFile bs) b None e = let code : Bytes = value [] (name_form bs) in omega (arith, done_push code b.files n)
-call_ends n (Identify m bs) b (Some r) e = stays_done b.files n
 call_ends n (Identify m bs) b None e =
     let h = not_over (file_of b.files m).stage (inl (stage_unidentified b m bs e)) in
     omega (arith, done_put b.files m n (at_stage Identified (file_of b.files m)) (omega (arith, h)))
@@ -309,10 +293,8 @@ call_ends n (Close m) b (Some r) e = no_receipt (eqb m n) b.files n
 call_ends n (Close m) b None e = done_end b.files m n (not_over (file_of b.files m).stage (inr (stage_identified b m e)))
 call_ends n (Judge m bs) b (Some r) e = omega (arith, done_put b.files m n (refused_in (file_of b.files m)) (refused_stage (file_of b.files m)))
 call_ends n (Judge m bs) b None e = omega (arith, done_put b.files m n (one_accepted (file_of b.files m)) (omega arith))
-call_ends n (LookUp bs) b (Some r) e = stays_done b.files n
-call_ends n (LookUp bs) b None e = stays_done b.files n
-call_ends n Total b (Some r) e = stays_done b.files n
-call_ends n Total b None e = stays_done b.files n
+call_ends n _ b (Some r) e = stays_done b.files n
+call_ends n _ b None e = stays_done b.files n
 
 under : (p : Said → Bool) (s : Said) (more : List Said) (f g h : ℕ) → cond (p s) 1 0 + f ≤ g → count_by p more + g ≤ h → count_by p (s ∷ more) + f ≤ h
 under p s more f g h a b = omega (arith, count_on p s more)
@@ -351,24 +333,14 @@ refused_fresh f h = go (first_fit taking_rows f) refl
     go None e = λ s. absurd (apart f.stage (file_takes f e).0 s)
 
 call_fresh : (c : Call) (b : Book) (v : Option (ℕ × ℕ)) → verdict b c ≡ v → AllByRecursion Fresh b.files → AllByRecursion Fresh (changed b c v).files
-call_fresh (AddEntity bs) b (Some r) e h = h
-call_fresh (AddEntity bs) b None e h = h
-call_fresh (AddContract bs) b (Some r) e h = h
-call_fresh (AddContract bs) b None e h = h
-call_fresh (NameFile bs) b (Some r) e h = h
 call_fresh (NameFile bs) b None e h = All-push Fresh b.files _ h (λ _. record { judged = refl; accepted = refl; refused = refl })
-call_fresh (Identify n bs) b (Some r) e h = h
 call_fresh (Identify n bs) b None e h = All-set Fresh b.files n _ (λ s. absurd (true≢false (sym s))) h
-call_fresh (Withdraw n) b (Some r) e h = h
 call_fresh (Withdraw n) b None e h = All-set Fresh b.files n _ (λ s. absurd (true≢false (sym s))) h
-call_fresh (Close n) b (Some r) e h = h
 call_fresh (Close n) b None e h = All-set Fresh b.files n _ (λ s. absurd (true≢false (sym s))) h
 call_fresh (Judge n bs) b (Some r) e h = All-set Fresh b.files n _ (refused_fresh _ (file_fresh b.files n h)) h
 call_fresh (Judge n bs) b None e h = All-set Fresh b.files n _ (λ s. absurd (apart (file_of b.files n).stage (file_takes (file_of b.files n) (passed b n bs e).takes).0 s)) h
-call_fresh (LookUp bs) b (Some r) e h = h
-call_fresh (LookUp bs) b None e h = h
-call_fresh Total b (Some r) e h = h
-call_fresh Total b None e h = h
+call_fresh _ b (Some r) e h = h
+call_fresh _ b None e h = h
 
 run_fresh : (cs : List Call) (b : Book) → AllByRecursion Fresh b.files → AllByRecursion Fresh (end b cs).files
 run_fresh [] b h = h

@@ -10,7 +10,7 @@ use Rattle.life.specs.Lives.{Lives, look, altered, Unique, Same}
 use Rattle.life.proofs.Lives.{same_erase, look_altered_at, length_same}
 use Rattle.std.specs.Option.{option_map}
 use Rattle.measure.proofs.Sums.{total_same}
-use Rattle.book.specs.Book.{Book, empty_book, Call, AddEntity, AddContract, NameFile, Identify, Withdraw, Close, Judge, LookUp, Total, Answer, told_by, key_of, verdict, acted, done, undone, changed, after, granted, answered, answer}
+use Rattle.book.specs.Book.{Book, empty_book, Call, AddEntity, AddContract, NameFile, Identify, Withdraw, Close, Judge, LookUp, Answer, told_by, key_of, verdict, acted, done, undone, changed, after, granted, answered, answer}
 use Rattle.book.specs.Laws.{Tidy}
 use Rattle.book.proofs.Runs.{end_append}
 use Rattle.book.proofs.Tidy.{tidy_law}
@@ -35,24 +35,18 @@ same_acted Cancel k t q p ps qs h j = same_altered k _ ps qs h j
 agreed_verdict : (c : Call) (b d : Book) → Agrees b d → verdict b c ≡ verdict d c
 agreed_verdict (AddEntity bs) b d t = rw t.same_entities
 agreed_verdict (AddContract bs) b d t = rw t.same_contracts
-agreed_verdict (NameFile bs) b d t = refl
 agreed_verdict (Identify n bs) b d t = rw (t.same_entities, t.same_files)
 agreed_verdict (Withdraw n) b d t = rw t.same_files
 agreed_verdict (Close n) b d t = rw t.same_files
 agreed_verdict (Judge n bs) b d t = rw (t.same_files, t.same_contracts, t.same_lives (key_of (told_by d.contracts bs)), t.same_capacity, t.same_number)
 agreed_verdict (LookUp bs) b d t = rw t.same_contracts
-agreed_verdict Total b d t = refl
+agreed_verdict _ b d t = refl
 
 agreed_granted : (c : Call) (b d : Book) → Agrees b d → granted b c ≡ granted d c
-agreed_granted (AddEntity bs) b d t = refl
-agreed_granted (AddContract bs) b d t = refl
-agreed_granted (NameFile bs) b d t = refl
-agreed_granted (Identify n bs) b d t = refl
 agreed_granted (Withdraw n) b d t = rw t.same_files
 agreed_granted (Close n) b d t = rw t.same_files
-agreed_granted (Judge n bs) b d t = refl
 agreed_granted (LookUp bs) b d t = rw (t.same_contracts, t.same_lives (key_of (told_by d.contracts bs)))
-agreed_granted Total b d t = refl
+agreed_granted _ b d t = refl
 
 -- what two books are that agree in all but their number of lives and their capacity
 record Alongside (b d : Book) : Type 0 where
@@ -82,19 +76,11 @@ agreed_done (Judge n bs) b d t = record {
       λ j. same_acted x.says.action (key_of x) x.says.time x.says.quantity x.says.price b.lives d.lives t.same_lives j
       ∙ ap (λ z. look j (acted z.says.action (key_of z) z.says.time z.says.quantity z.says.price d.lives)) e;
 }
-agreed_done (LookUp bs) b d t = still b d t
-agreed_done Total b d t = still b d t
+agreed_done _ b d t = still b d t
 
 agreed_undone : (c : Call) (b d : Book) → Agrees b d → Alongside (undone b c) (undone d c)
-agreed_undone (AddEntity bs) b d t = still b d t
-agreed_undone (AddContract bs) b d t = still b d t
-agreed_undone (NameFile bs) b d t = still b d t
-agreed_undone (Identify n bs) b d t = still b d t
-agreed_undone (Withdraw n) b d t = still b d t
-agreed_undone (Close n) b d t = still b d t
 agreed_undone (Judge n bs) b d t = record { entities_so = t.same_entities; contracts_so = t.same_contracts; files_so = rw t.same_files; lives_so = t.same_lives }
-agreed_undone (LookUp bs) b d t = still b d t
-agreed_undone Total b d t = still b d t
+agreed_undone _ b d t = still b d t
 
 agreed_after : (c : Call) (b d : Book) → Agrees b d → Alongside (after b c) (after d c)
 agreed_after c b d t = subst (λ v. Alongside (after b c) (changed d c v)) (agreed_verdict c b d t) (by (verdict b c))

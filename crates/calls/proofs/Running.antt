@@ -3,7 +3,7 @@ use Rattle.measure.specs.declared.measure.Measure.{Ghosts}
 use Rattle.std.proofs.Common.{◌≡◌, ℕ, ◌+◌, ◌<◌, ◌≤◌, List, [], ◌∷◌, ◌++◌, length, get_or, take, sym, refl, ap, ◌∙◌, subst, append-nil, arith}
 use mathlib.Core.List.{map-append}
 use Rattle.std.proofs.lemmas.List.{take_more, take_all}
-use Rattle.book.specs.Book.{Book, empty_book, Call, AddEntity, AddContract, NameFile, Identify, Withdraw, Close, Judge, LookUp, Total, Answer, Accepted, after, answer, answers, end}
+use Rattle.book.specs.Book.{Book, empty_book, Call, Total, Answer, Accepted, after, answer, answers, end}
 use Rattle.book.specs.Totals.{telling, totals}
 use Rattle.book.proofs.Runs.{answers_append}
 use Rattle.calls.specs.declared.call.Call.{Call as Asked}
@@ -11,15 +11,8 @@ use Rattle.calls.specs.Follows.{book_after, book_total, Follows, Ran}
 use Rattle.calls.specs.Said.{Spoken, call_said, calls_said, answer_said, answers_said, Answering, Totalling, replied, reply}
 
 telling_append : {V : Type 0} (t : V) (c : Call) (xs ys : List V) → telling t c (xs ++ ys) ≡ telling t c xs ++ ys
-telling_append t (AddEntity bs) xs ys = refl
-telling_append t (AddContract bs) xs ys = refl
-telling_append t (NameFile bs) xs ys = refl
-telling_append t (Identify n bs) xs ys = refl
-telling_append t (Withdraw n) xs ys = refl
-telling_append t (Close n) xs ys = refl
-telling_append t (Judge n bs) xs ys = refl
-telling_append t (LookUp bs) xs ys = refl
 telling_append t Total xs ys = refl
+telling_append t _ xs ys = refl
 
 module _ {V : Type 0} (weighing : Ghosts V) where
   totals_append : (xs ys : List Call) (b : Book) → totals weighing.nil weighing.joined weighing.weight b (xs ++ ys) ≡ totals weighing.nil weighing.joined weighing.weight b xs ++ totals weighing.nil weighing.joined weighing.weight (end b xs) ys
@@ -45,27 +38,13 @@ module _ {V : Type 0} where
 
   -- a call that is answered is none for the total
   answering : (c : Call) (x a : Answer) (t : V) → Answering x ≡ replied c a t → (x ≡ a) × ((s : V) → telling s c [] ≡ [])
-  answering (AddEntity bs) x a t e = (cc, λ s. refl)
-  answering (AddContract bs) x a t e = (cc, λ s. refl)
-  answering (NameFile bs) x a t e = (cc, λ s. refl)
-  answering (Identify n bs) x a t e = (cc, λ s. refl)
-  answering (Withdraw n) x a t e = (cc, λ s. refl)
-  answering (Close n) x a t e = (cc, λ s. refl)
-  answering (Judge n bs) x a t e = (cc, λ s. refl)
-  answering (LookUp bs) x a t e = (cc, λ s. refl)
   answering Total x a t e = absurd (total_apart a x t e)
+  answering _ x a t e = (cc, λ s. refl)
 
   -- a call that is told a total asked for it
   totalling : (c : Call) (x : V) (a : Answer) (t : V) → Totalling x ≡ replied c a t → (c ≡ Total) × (x ≡ t)
-  totalling (AddEntity bs) x a t e = absurd (total_apart a a x (sym e))
-  totalling (AddContract bs) x a t e = absurd (total_apart a a x (sym e))
-  totalling (NameFile bs) x a t e = absurd (total_apart a a x (sym e))
-  totalling (Identify n bs) x a t e = absurd (total_apart a a x (sym e))
-  totalling (Withdraw n) x a t e = absurd (total_apart a a x (sym e))
-  totalling (Close n) x a t e = absurd (total_apart a a x (sym e))
-  totalling (Judge n bs) x a t e = absurd (total_apart a a x (sym e))
-  totalling (LookUp bs) x a t e = absurd (total_apart a a x (sym e))
   totalling Total x a t e = (refl, cc)
+  totalling _ x a t e = absurd (total_apart a a x (sym e))
 
 module _ {V : Type 0} (weighing : Ghosts V) (capacity : ℕ) (past : List Call) (c : Call) (said : List Spoken) (told : List V) (was is : Book) (old new : V) where
   -- a run that goes on with an answer

@@ -3,7 +3,7 @@ use Rattle.std.proofs.Common.{◌≡◌, ℕ, List, [], ◌∷◌, length, sym, 
 use Rattle.std.specs.List.{AllZip}
 use Rattle.measure.specs.declared.measure.Measure.{Ghosts}
 use Rattle.life.specs.Lives.{look}
-use Rattle.book.specs.Book.{Book, empty_book, Call, AddEntity, AddContract, NameFile, Identify, Withdraw, Close, Judge, LookUp, Total, Answer, verdict, answered, answer, after, answers, end}
+use Rattle.book.specs.Book.{Book, empty_book, Call, Judge, Answer, verdict, answered, answer, after, answers, end}
 use Rattle.book.specs.Laws.{log, survivors, Taken, subject, EveryLineAccepted, FewerLines}
 use Rattle.book.proofs.Survivors.{survivors_law}
 use Rattle.book.proofs.Tidy.{tidy_law}
@@ -12,15 +12,8 @@ use Rattle.calls.specs.Follows.{Agrees, Ran}
 use Rattle.resends.specs.Resends.{LineAccepted, LinesAccepted, Resends}
 
 taken_line : (b : Book) (c : Call) → Taken (subject b.contracts c) (verdict b c) → LineAccepted c (answer b c)
-taken_line b (AddEntity bs) h = tt
-taken_line b (AddContract bs) h = tt
-taken_line b (NameFile bs) h = tt
-taken_line b (Identify n bs) h = tt
-taken_line b (Withdraw n) h = tt
-taken_line b (Close n) h = tt
 taken_line b (Judge n bs) h = ap (answered b (Judge n bs)) h
-taken_line b (LookUp bs) h = tt
-taken_line b Total h = tt
+taken_line b _ h = tt
 
 all_taken : (cs : List Call) (b : Book) → EveryLineAccepted (log b cs) → LinesAccepted cs (answers b cs)
 all_taken [] b h = tt
