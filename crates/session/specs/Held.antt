@@ -21,7 +21,10 @@ use Rattle.session.specs.declared.reply.Reply.{Reply}
 use Rattle.session.specs.declared.reply.Reply.TheVariants as reply
 use Rattle.session.specs.declared.refusals.Refusal.{Refusal}
 use Rattle.session.specs.Refusals.{refusal_number, refusal_field, refusal_offset, told_text, answer_text}
-use Rattle.session.specs.Session.{InHand, NoFile, OnlyNamed, Identified, call_of_line, in_hand_after, answer_to, Said, Answered, AskedPositions, AskedCheckWord, said_of_line, listed, calls_of_input}
+use Rattle.session.specs.Session.{InHand, NoFile, OnlyNamed, Identified, call_of_line}
+use Rattle.session.specs.Session.{in_hand_after, answer_to, Said, Answered, AskedPositions}
+use Rattle.session.specs.Session.{AskedCheckWord, said_of_line, listed, calls_of_lines}
+use Rattle.session.specs.Session.{calls_of_input}
 
 abbrev pub in_hand : FileInHand → InHand
 in_hand file.None = NoFile
@@ -58,6 +61,13 @@ module _ {S M : Type 0} (weighing : Ghosts M) where
       × (next ≡ in_hand_after (book_after capacity past) h (call_of_line h line))
       × Led weighing capacity (past ++ listed (call_of_line h line)) is
 
+  -- every list of calls that led to `was`, and then the calls that these lines make and the one
+  -- that ends the file in hand after them, lead to `is`
+  abbrev pub GivenLines : Checker S M → List Bytes → Checker S M → Type 0
+  GivenLines was lines is =
+      (capacity : ℕ) (past : List Call) → Led weighing capacity past was →
+      Led weighing capacity (past ++ calls_of_lines (book_after capacity past) NoFile lines) is
+
   -- every list of calls that led to `was`, and then the calls that the lines of the input make, lead to `is`
   abbrev pub GivenInput : Checker S M → Bytes → Checker S M → Type 0
   GivenInput was input is =
@@ -66,8 +76,7 @@ module _ {S M : Type 0} (weighing : Ghosts M) where
 -- the line that tells a reply is the one that the answer should have, of an order or of a trade
 abbrev pub HasText : Kind → Reply → Type 0
 HasText kind (reply.Told t) = told_text t ≡ answer_text kind (told t)
-HasText kind (reply.Positions sums) = ⊤
-HasText kind (reply.CheckWord word) = ⊤
+HasText kind _ = ⊤
 
 -- the check word of lives
 abbrev pub check_word_of : Lives → ℕ

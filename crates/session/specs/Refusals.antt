@@ -7,7 +7,7 @@ use Rattle.book.specs.Book as book
 use Rattle.book.specs.Book.{Answer}
 use Rattle.calls.specs.Codes.{agency_code}
 use Rattle.calls.specs.declared.answer.Given.{Given}
-use Rattle.calls.specs.declared.answer.Given.TheVariants.{Accepted, Found, Receipt}
+use Rattle.calls.specs.declared.answer.Given.TheVariants.{Receipt}
 use Rattle.output.specs.Lines.{text_of_words, accepted_words, refused_words, receipt_words}
 use Rattle.calls.specs.Faults.{fault_number, fault_field, fault_offset, fault_code}
 use Rattle.session.specs.declared.refusals.Refusal.{Refusal}
@@ -45,9 +45,8 @@ abbrev pub refusal_text : Refusal → Bytes
 refusal_text r = refused_text (refusal_number r) (refusal_field r) (refusal_code r)
 
 abbrev pub given_text : Given → Bytes
-given_text Accepted = text_of_words accepted_words
-given_text (Found life) = text_of_words accepted_words
 given_text (Receipt r) = text_of_words (receipt_words r.judged r.accepted r.refused)
+given_text _ = text_of_words accepted_words
 
 -- the line that answers what the code tells
 abbrev pub told_text : Result Given Refusal → Bytes
@@ -56,7 +55,6 @@ told_text (Err r) = refusal_text r
 
 -- the line that an answer of the book should have, of an order or of a trade
 abbrev pub answer_text : Kind → Answer → Bytes
-answer_text kind book.Accepted = text_of_words accepted_words
 answer_text kind (book.Refused number field at) = refused_text number field (agency_code kind number)
 answer_text kind (book.Receipt judged accepted refused) = text_of_words (receipt_words judged accepted refused)
-answer_text kind (book.Found life) = text_of_words accepted_words
+answer_text kind _ = text_of_words accepted_words

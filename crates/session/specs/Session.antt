@@ -102,21 +102,15 @@ pub data Said : Type 0 where
   AskedPositions AskedCheckWord : Said
 
 abbrev pub said_of : Book → InHand → CommandParts → Said
-said_of b h (command.AddEntity code) = Answered (answer_to b (call_by h (command.AddEntity code)))
-said_of b h (command.AddContract text) = Answered (answer_to b (call_by h (command.AddContract text)))
-said_of b h (command.NameFile name) = Answered (answer_to b (call_by h (command.NameFile name)))
-said_of b h (command.Identify code) = Answered (answer_to b (call_by h (command.Identify code)))
-said_of b h (command.Judge line) = Answered (answer_to b (call_by h (command.Judge line)))
-said_of b h command.EndFile = Answered (answer_to b (call_by h command.EndFile))
 said_of b h command.Positions = AskedPositions
 said_of b h command.CheckWord = AskedCheckWord
+said_of b h c = Answered (answer_to b (call_by h c))
 
 -- a line is refused by the first row that fits it, and else as its command is answered
 abbrev pub said_or : Book → InHand → Option CommandParts → Option (ℕ × ℕ) → Said
 said_or b h None None = Answered (Refused 66 0 0)
 said_or b h (Some command) None = said_of b h command
-said_or b h None (Some r) = Answered (Refused r.0 r.1 0)
-said_or b h (Some command) (Some r) = Answered (Refused r.0 r.1 0)
+said_or b h command (Some r) = Answered (Refused r.0 r.1 0)
 
 abbrev pub said_of_line : Book → InHand → Bytes → Said
 said_of_line b h line = said_or b h (command_form line) (first_fit command_rows line)

@@ -1,9 +1,10 @@
 // A whole input, line by line.
-ghost use Rattle.std.specs.Prelude.{◌≡◌, ◌++◌, IfOk, OnOk, option_map};
-ghost use Rattle.book.specs.Book.{empty_book};
+ghost use Rattle.std.specs.Prelude.{◌≡◌, ◌++◌, [], IfOk, OnOk, OnErr, option_map};
+ghost use Rattle.book.specs.Book.{empty_book, end};
 ghost use Rattle.calls.specs.Said.{call_said, calls_said};
 ghost use Rattle.session.specs.Held.{GivenInput};
-ghost use Rattle.session.specs.Session.{listed, calls_of_input};
+ghost use Rattle.session.specs.Session.{lines_of, listed, calls_of_input};
+ghost use Rattle.session.specs.SessionLaw.{EndsItsFiles, FilesEnd, GivenPart};
 
 use crate::file_in_hand::FileInHand;
 use crate::lines::Lines;
@@ -17,13 +18,20 @@ use std::io;
 
 // Answers each line of an input on standard output, and ends the file that is in hand at last. Where all was written, the calls that the lines make
 // were given to the checker, one after another. On standard error each refusal is explained, where that is wanted.
+// Each file that is named has ended at last, with one receipt, in the order of naming. Where
+// something cannot be written, or memory is wanting, the same holds of the lines up to that place.
 pub fn answer_all<S: Store>(
     rt: HostRuntime,
     checker: &mut Checker<'_, '_, S, Totals>,
     input: &[u8],
     explains: bool,
 ) -> io::Result<()>
-    ensures { OnOk result (GivenInput ⟦<Both<Sheet, CheckWord> as Measure>⟧ checker.old input.now checker.new) }
+    ensures given { OnOk result (GivenInput ⟦<Both<Sheet, CheckWord> as Measure>⟧
+        checker.old input.now checker.new) }
+    ensures files { OnOk result (FilesEnd ⟦<Both<Sheet, CheckWord> as Measure>⟧
+        checker.old (lines_of input.now) checker.new) }
+    ensures stopped { OnErr result (GivenPart ⟦<Both<Sheet, CheckWord> as Measure>⟧
+        checker.old input.now checker.new) }
 {
     let mut printer = Printer::new(rt, explains)?;
     let mut file = FileInHand::None;
@@ -57,15 +65,23 @@ fn note<'c>(calls: &mut Vec<Call<'c>>, call: Option<Call<'c>>) -> Result<(), All
     Ok(())
 }
 
-// The calls that the lines of an input make on a new checker, and the one that ends the file that is in hand at last. The store is used for the checker.
+// The calls that the lines of an input make on a new checker, and the one that ends the file that
+// is in hand at last. The store is used for the checker, and is empty afterwards.
 pub fn calls_of_input<'c, S: Store>(
     heap: Global,
     store: &mut S,
     input: &'c [u8],
 ) -> Result<Vec<Call<'c>>, AllocError>
-    ensures { IfOk result (λ calls. calls_said calls.items ≡ calls_of_input (empty_book (S.room store.old)) input.now) }
+    ensures calls { IfOk result (λ calls.
+        calls_said calls.items ≡ calls_of_input (empty_book (S.room store.old)) input.now) }
+    ensures files { IfOk result (λ calls. EndsItsFiles (empty_book (S.room store.old))
+        (calls_said calls.items)
+        (end (empty_book (S.room store.old)) (calls_said calls.items)).files) }
+    ensures emptied { S.pairs store.new ≡ [] }
 {
-    with_mark(|mark| calls_with(mark, heap, store, input))
+    let calls = with_mark(|mark| calls_with(mark, heap, store, input));
+    store.empty();
+    calls
 }
 
 // The same, on a checker of this mark.
