@@ -163,7 +163,7 @@ struct Generator {
     entity: Text,
 }
 
-/// So many input lines of `checker`. The mix goes by the remainder of the seed by 8.
+/// So many input lines of `checker`. The mix goes by the remainder of the starting number by 8.
 pub fn checker(seed: u64, lines: usize) -> Text {
     mixed(seed, (seed % 8) as usize, lines, CAPACITY)
 }
