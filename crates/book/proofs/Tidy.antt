@@ -1,5 +1,7 @@
 -- Every run keeps the book tidy.
-use Rattle.std.proofs.Common.{◌≡◌, ℕ, zero, suc, ◌+◌, ◌<◌, ◌≤◌, Bool, true, false, cond, ◌&&◌, ◌||◌, leb, ltb, List, [], ◌∷◌, ◌++◌, length, map, set, ℤ, is_some, Some, None, Option, sym, refl, ap, ◌∙◌, subst, arith, length-append}
+use Rattle.std.proofs.Common.{◌≡◌, ℕ, zero, suc, ◌+◌, ◌<◌, ◌≤◌, Bool, true, false, cond, ◌&&◌, ◌||◌}
+use Rattle.std.proofs.Common.{leb, ltb, List, [], ◌∷◌, ◌++◌, length, map, set, ℤ, is_some, Some}
+use Rattle.std.proofs.Common.{None, Option, sym, refl, ap, ◌∙◌, subst, arith, length-append}
 use Rattle.std.specs.List.{AllByRecursion, IsDistinct, list_any}
 use Rattle.std.specs.Str.{bytes_eq}
 use Rattle.std.proofs.ByRecursion.{All-set, All-push}
@@ -13,7 +15,9 @@ use Rattle.text.specs.declared.words.Action.TheVariants.{New, Modify, Error, Can
 use Rattle.text.specs.Bytes.{Bytes, among, pieces, value, then}
 use Rattle.text.specs.Forms.{at_most, decimal_of, decimal_form, quantity_form}
 use Rattle.text.specs.Rows.{first_fit}
-use Rattle.contract.specs.ContractList.{Contract, contract_limit, name_limit, names_in, numbered, listed, number_of, contract_number, bilateral, listing_rows, text_rows, offered}
+use Rattle.contract.specs.ContractList.{Contract, contract_limit, name_limit, names_in, numbered}
+use Rattle.contract.specs.ContractList.{listed, number_of, contract_number, bilateral, listing_rows}
+use Rattle.contract.specs.ContractList.{text_rows, offered}
 use Rattle.filing.specs.Entities.{entity_limit, entity_rows}
 use Rattle.filing.specs.Files.{Stage, Identified, Ended, File, named_file, at_stage, identified, judged_limit, taking_rows, one_accepted, one_refused}
 use Rattle.life.specs.Parts.{KeyParts, LifeParts}
@@ -21,7 +25,7 @@ use Rattle.life.specs.Keys.{same_key}
 use Rattle.life.specs.Lives.{Lives, look, altered, erase, Unique}
 use Rattle.life.specs.Rules.{life_rows, standing, is_new, new_life, modified, cancelled}
 use Rattle.life.proofs.Lives.{unique_from, unique_erase, unique_altered, length_altered, length_erase}
-use Rattle.book.specs.Book.{Book, empty_book, with_files, with_lives, file_of, put_file, Call, AddEntity, AddContract, NameFile, Identify, Withdraw, Close, Judge, LookUp, Total, told_by, key_of, wanted, asked, verdict, acted, refused_in, changed, after, end}
+use Rattle.book.specs.Book.{Book, empty_book, with_files, with_lives, file_of, put_file, Call, AddEntity, AddContract, NameFile, Identify, Withdraw, Close, Judge, told_by, key_of, wanted, asked, verdict, acted, refused_in, changed, after, end}
 use Rattle.book.specs.Laws.{TidyFile, TidyLife, Tidy, TidyLaw}
 use Rattle.book.proofs.Tables.{or_none, none_fits, Passed, passed, contract_parts, room_rows}
 
@@ -278,19 +282,13 @@ module _ (capacity : ℕ) where
   call_tidy : (c : Call) (b : Book) (v : Option (ℕ × ℕ)) → verdict b c ≡ v → Tidy capacity b → Tidy capacity (changed b c v)
   call_tidy (AddEntity bs) b v e s = entity_tidy bs b v e s
   call_tidy (AddContract bs) b v e s = contract_tidy bs b v e s
-  call_tidy (NameFile bs) b (Some r) e s = s
   call_tidy (NameFile bs) b None e s = files_tidy b _ s (All-push TidyFile b.files _ s.each_file (named_tidy _))
-  call_tidy (Identify n bs) b (Some r) e s = s
   call_tidy (Identify n bs) b None e s = staging_tidy n Identified b s
-  call_tidy (Withdraw n) b (Some r) e s = s
   call_tidy (Withdraw n) b None e s = staging_tidy n Ended b s
-  call_tidy (Close n) b (Some r) e s = s
   call_tidy (Close n) b None e s = staging_tidy n Ended b s
   call_tidy (Judge n bs) b v e s = line_tidy n bs b v e s
-  call_tidy (LookUp bs) b (Some r) e s = s
-  call_tidy (LookUp bs) b None e s = s
-  call_tidy Total b (Some r) e s = s
-  call_tidy Total b None e s = s
+  call_tidy _ b (Some r) e s = s
+  call_tidy _ b None e s = s
 
   run_tidy : (cs : List Call) (b : Book) → Tidy capacity b → Tidy capacity (end b cs)
   run_tidy [] b s = s
