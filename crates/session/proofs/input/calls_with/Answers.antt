@@ -3,7 +3,7 @@ use Rattle.std.proofs.Common.{append-nil, rules, vec_items, option_map}
 use Rattle.book.specs.Book.{empty_book}
 use Rattle.calls.specs.Held.{Led}
 use Rattle.calls.specs.Said.{call_said, calls_said}
-use Rattle.session.specs.Session.{NoFile, call_of_line, lines_of, listed, calls_of_lines}
+use Rattle.session.specs.Session.{NoFile, ending, call_of_line, lines_of, listed, calls_of_lines}
 use Rattle.session.specs.Held.{in_hand, Answers}
 use Rattle.session.proofs.Giving.{Given, given_none, given_line, given_all}
 use Rattle.session.proofs.Measures.{both_totals}
@@ -68,15 +68,13 @@ pub returns : goal.returns
 returns g c =
     let room = g.S.Store.room c.args.store.now in
     let calls = calls_said (vec_items c.loop-line.calls) in
+    let file = in_hand c.loop-line.file in
     let read = c.loop-line.invariant.0 in
+    let parts = c.loop-line.invariant.1 in
+    let gives = c.loop-line.invariant.2 in
     let led : Led both_totals room [] c.in_ok-checker.checker = search rules in
-    let noted : calls_said c.note-noted-2.new.calls.items
-    ≡ calls ++ listed (option_map call_said c.ending.result) = search rules in
-    let given = given_all both_totals room [] read calls c.loop-line.checker
-    (in_hand c.loop-line.file) (c.loop-line.invariant.2 room led) in
-    let all = c.loop-line.invariant.1 ∙ ap (λ ls. read ++ ls) c.in-None.ensures.steps.0
-    ∙ append-nil read in
-    noted
-    ∙ ap (λ call. calls ++ listed call) c.ending.ensures
-    ∙ sym given
-    ∙ ap (calls_of_lines (empty_book room) NoFile) (sym all)
+    let noted : calls_said c.note-noted-2.new.calls.items ≡ calls ++ listed (ending file) =
+    search rules in
+    let given = given_all both_totals room [] read calls c.loop-line.checker file (gives room led) in
+    let all = parts ∙ ap (λ ls. read ++ ls) c.in-None.ensures.steps.0 ∙ append-nil read in
+    noted ∙ sym given ∙ ap (calls_of_lines (empty_book room) NoFile) (sym all)
