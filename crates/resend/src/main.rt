@@ -43,7 +43,7 @@ fn text_of(heap: Global, input: &[u8], slots: usize) -> Result<Vec<u8>, ResendEr
     let mut store = Chained::new(&mut table);
     let mut other_table = free_slots(heap, slots)?;
     let mut other = Chained::new(&mut other_table);
-    let calls = calls_of_input(heap, &mut store, input)?;
+    let calls = calls_of_input(heap, input)?;
     let resent = resend(heap, &mut store, &mut other, &calls)?;
     let mut out = Vec::new(heap);
     for call in &resent.left {

@@ -1,3 +1,4 @@
+pub mod AnyRoom
 pub mod Giving
 pub mod InputLines
 pub mod Measures

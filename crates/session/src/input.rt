@@ -1,5 +1,5 @@
 // A whole input, line by line.
-ghost use Rattle.std.specs.Prelude.{◌≡◌, ◌++◌, [], IfOk, OnOk, OnErr, option_map};
+ghost use Rattle.std.specs.Prelude.{◌≡◌, ℕ, ◌++◌, IfOk, OnOk, OnErr, option_map};
 ghost use Rattle.book.specs.Book.{empty_book, end};
 ghost use Rattle.calls.specs.Said.{call_said, calls_said};
 ghost use Rattle.session.specs.Held.{GivenInput};
@@ -11,6 +11,7 @@ use crate::lines::Lines;
 use crate::printer::Printer;
 use crate::reply::Totals;
 use calls::{Call, Checker, Mark, with_mark};
+use chained::Chained;
 use life::Store;
 use measure::{Both, CheckWord, Measure, Sheet};
 use std::alloc::{AllocError, Global};
@@ -65,23 +66,17 @@ fn note<'c>(calls: &mut Vec<Call<'c>>, call: Option<Call<'c>>) -> Result<(), All
     Ok(())
 }
 
-// The calls that the lines of an input make on a new checker, and the one that ends the file that
-// is in hand at last. The store is used for the checker, and is empty afterwards.
-pub fn calls_of_input<'c, S: Store>(
-    heap: Global,
-    store: &mut S,
-    input: &'c [u8],
-) -> Result<Vec<Call<'c>>, AllocError>
-    ensures calls { IfOk result (λ calls.
-        calls_said calls.items ≡ calls_of_input (empty_book (S.room store.old)) input.now) }
-    ensures files { IfOk result (λ calls. EndsItsFiles (empty_book (S.room store.old))
-        (calls_said calls.items)
-        (end (empty_book (S.room store.old)) (calls_said calls.items)).files) }
-    ensures emptied { S.pairs store.new ≡ [] }
+/// The calls that the lines of an input make on a new checker, whatever room it has for lives, and the
+/// one that ends the file in hand at last.
+pub fn calls_of_input<'c>(heap: Global, input: &'c [u8]) -> Result<Vec<Call<'c>>, AllocError>
+    ensures calls { IfOk result (λ calls. (capacity : ℕ) →
+        calls_said calls.items ≡ calls_of_input (empty_book capacity) input.now) }
+    ensures files { IfOk result (λ calls. (capacity : ℕ) → EndsItsFiles (empty_book capacity)
+        (calls_said calls.items) (end (empty_book capacity) (calls_said calls.items)).files) }
 {
-    let calls = with_mark(|mark| calls_with(mark, heap, store, input));
-    store.empty();
-    calls
+    // which file is in hand does not depend on the lives that are held
+    let mut store = Chained::new(&mut []);
+    with_mark(|mark| calls_with(mark, heap, &mut store, input))
 }
 
 // The same, on a checker of this mark.
