@@ -11,7 +11,7 @@ use Rattle.text.specs.Rows.{Row, first_fit}
 use Rattle.text.proofs.Tables.{or_else}
 use Rattle.filing.specs.Files.{Stage, Named, Identified, Ended, File, named_file, at_stage, only_named, identified, taking_rows, withdrawing_rows, closing_rows, identifying_rows, one_accepted, one_refused}
 use Rattle.book.specs.Book.{Book, empty_book, no_file, file_of, Call, NameFile, Identify, Withdraw, Close, Judge, Answer, Receipt, receipt, asked, verdict, refused_in, changed, after, answered, answer, answers, end}
-use Rattle.book.specs.FileLaws.{Said, was_judged, was_accepted, was_refused, was_ended, Counts, FilesLaw}
+use Rattle.book.specs.FileLaws.{AnsweredCall, was_judged, was_accepted, was_refused, was_ended, Counts, FilesLaw}
 use Rattle.book.proofs.Tables.{none_fits, passed, fit_parts, from_line}
 use Rattle.book.proofs.Tidy.{file_takes}
 
@@ -165,27 +165,27 @@ call_counted n _ b None e = same_counts _
 -- ---- What a run adds
 
 -- the counts of a file after a run, from those before
-record Summed (n : ℕ) (said : List Said) (f g : File) : Type 0 where
+record Summed (n : ℕ) (said : List AnsweredCall) (f g : File) : Type 0 where
   judged : g.judged ≡ count_by (was_judged n) said + f.judged
   accepted : g.accepted ≡ count_by (was_accepted n) said + f.accepted
   refused : g.refused ≡ count_by (was_refused n) said + f.refused
 
-abbrev said_by : Book → List Call → List Said
+abbrev said_by : Book → List Call → List AnsweredCall
 said_by b cs = zip cs (answers b cs)
 
 -- a count over one call and then more
-count_on : (p : Said → Bool) (s : Said) (more : List Said) → count_by p (s ∷ more) ≡ cond (p s) 1 0 + count_by p more
+count_on : (p : AnsweredCall → Bool) (s : AnsweredCall) (more : List AnsweredCall) → count_by p (s ∷ more) ≡ cond (p s) 1 0 + count_by p more
 count_on p s more = sum_by-cons (λ x. cond (p x) 1 0) s more
 
-summed : (p : Said → Bool) (s : Said) (more : List Said) (f g h : ℕ) → g ≡ cond (p s) 1 0 + f → h ≡ count_by p more + g → h ≡ count_by p (s ∷ more) + f
+summed : (p : AnsweredCall → Bool) (s : AnsweredCall) (more : List AnsweredCall) (f g h : ℕ) → g ≡ cond (p s) 1 0 + f → h ≡ count_by p more + g → h ≡ count_by p (s ∷ more) + f
 summed p s more f g h a b = omega (arith, count_on p s more)
 
 run_counted : (n : ℕ) (cs : List Call) (b : Book) → Summed n (said_by b cs) (file_of b.files n) (file_of (end b cs).files n)
 run_counted n [] b = record { judged = omega arith; accepted = omega arith; refused = omega arith }
 run_counted n (c ∷ cs) b =
     let one = call_counted n c b (verdict b c) refl in
-    let s : Said = (c, answer b c) in
-    let more : List Said = said_by (after b c) cs in
+    let s : AnsweredCall = (c, answer b c) in
+    let more : List AnsweredCall = said_by (after b c) cs in
     let rest = run_counted n cs (after b c) in
     record {
       judged = summed (was_judged n) s more _ _ _ one.judged rest.judged;
@@ -196,7 +196,11 @@ run_counted n (c ∷ cs) b =
 counts : (n capacity : ℕ) (cs : List Call) → let f = file_of (end (empty_book capacity) cs).files n in Counts n (said_by (empty_book capacity) cs) f.judged f.accepted f.refused
 counts n capacity cs =
     let s = run_counted n cs (empty_book capacity) in
-    record { all = omega (arith, s.judged); good = omega (arith, s.accepted); bad = omega (arith, s.refused) }
+    record {
+      all_judged = omega (arith, s.judged);
+      all_accepted = omega (arith, s.accepted);
+      all_refused = omega (arith, s.refused);
+    }
 
 -- ---- Ends
 
@@ -296,7 +300,7 @@ call_ends n (Judge m bs) b None e = omega (arith, done_put b.files m n (one_acce
 call_ends n _ b (Some r) e = stays_done b.files n
 call_ends n _ b None e = stays_done b.files n
 
-under : (p : Said → Bool) (s : Said) (more : List Said) (f g h : ℕ) → cond (p s) 1 0 + f ≤ g → count_by p more + g ≤ h → count_by p (s ∷ more) + f ≤ h
+under : (p : AnsweredCall → Bool) (s : AnsweredCall) (more : List AnsweredCall) (f g h : ℕ) → cond (p s) 1 0 + f ≤ g → count_by p more + g ≤ h → count_by p (s ∷ more) + f ≤ h
 under p s more f g h a b = omega (arith, count_on p s more)
 
 run_ends : (n : ℕ) (cs : List Call) (b : Book) → count_by (was_ended n) (said_by b cs) + done_at b.files n ≤ done_at (end b cs).files n
@@ -349,21 +353,21 @@ run_fresh (c ∷ cs) b h = run_fresh cs (after b c) (call_fresh c b (verdict b c
 -- ---- A place in a run
 
 -- a run up to a call, and what the call was answered
-record Place (b : Book) (before : List Said) (c : Call) (a : Answer) : Type 0 where
+record Place (b : Book) (before : List AnsweredCall) (c : Call) (a : Answer) : Type 0 where
   past : List Call
   are : before ≡ said_by b past
   told : a ≡ answer (end b past) c
 
-place : (before : List Said) (cs : List Call) (b : Book) (c : Call) (a : Answer) (later : List Said) → said_by b cs ≡ before ++ (c, a) ∷ later → Place b before c a
+place : (before : List AnsweredCall) (cs : List Call) (b : Book) (c : Call) (a : Answer) (later : List AnsweredCall) → said_by b cs ≡ before ++ (c, a) ∷ later → Place b before c a
 place [] [] b c a later e = let z : ◌≡◌ {A = ℕ} 0 1 = cc in absurd (omega arith)
 place [] (d ∷ cs) b c a later e =
-    let x : Said = (d, answer b d) in
-    let y : Said = (c, a) in
+    let x : AnsweredCall = (d, answer b d) in
+    let y : AnsweredCall = (c, a) in
     let same : x ≡ y = cc in
     record { past = []; are = refl; told = sym (ap (λ s. s.1) same) ∙ ap (λ s. answer b s.0) same }
 place (s ∷ before) [] b c a later e = let z : ◌≡◌ {A = ℕ} 0 1 = cc in absurd (omega arith)
 place (s ∷ before) (d ∷ cs) b c a later e =
-    let x : Said = (d, answer b d) in
+    let x : AnsweredCall = (d, answer b d) in
     let first : x ≡ s = cc in
     let rest : said_by (after b d) cs ≡ before ++ (c, a) ∷ later = cc in
     let p = place before cs (after b d) c a later rest in
@@ -402,7 +406,11 @@ files_law capacity calls = record {
       let p = place before calls (empty_book capacity) (Close n) (Receipt j a r) later e in
       let x = closing_reads (end (empty_book capacity) p.past) n j a r p.told in
       let s = counts n capacity p.past in
-      subst (λ said. Counts n said j a r) (sym p.are) (record { all = x.judged ∙ s.all; good = x.accepted ∙ s.good; bad = x.refused ∙ s.bad });
+      subst (λ said. Counts n said j a r) (sym p.are) (record {
+        all_judged = x.judged ∙ s.all_judged;
+        all_accepted = x.accepted ∙ s.all_accepted;
+        all_refused = x.refused ∙ s.all_refused;
+      });
   withdrawn = λ n j a r before later e.
       let p = place before calls (empty_book capacity) (Withdraw n) (Receipt j a r) later e in
       let b : Book = end (empty_book capacity) p.past in

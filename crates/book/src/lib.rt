@@ -71,8 +71,10 @@ pub fn worked_edges() -> u8
     53
 }
 
-// The most lines judged in a file. In every run, each judged line counts once in its file, no key has two lives, and there are no more lives than
-// the capacity. The lines judged in a file are the Judge calls on it that were answered neither 66 nor 9; it ends at most once, and its receipt has its counts.
+// The most lines judged in a file. In every run, each judged line counts once in its file, no key
+// has two lives, there are no more lives than the capacity, and no entity and no contract id is
+// listed twice. The lines judged in a file are the Judge calls on it that were answered neither 66
+// nor 9; it ends at most once, and its receipt has its counts.
 pub fn most_lines() -> u32
     ensures limit { result ≡ judged_limit }
     ensures tidy { TidyLaw }

@@ -1,4 +1,5 @@
--- The entity code of a file's name has twelve bytes, so that a bounded text holds it; and a file more.
+-- The entity code of a file's name has twelve bytes, so that a bounded text holds it; and a file
+-- more.
 use Rattle.std.proofs.Common.{◌≡◌, ℕ, Bool, true, false, cond, not, List, [], ◌∷◌, length, Some, None, Ok, Option, Result, sym, refl, ap, ◌∙◌, arith}
 use Rattle.text.specs.Bytes.{Bytes, pieces, value, has_form}
 use Rattle.text.specs.Forms.{code_form}

@@ -1,4 +1,5 @@
--- What calls on files answer, as plain data: number and field of a refusal, if there is one, and receipts.
+-- What calls on files answer, as plain data: number and field of a refusal, if there is one, and
+-- receipts.
 use Rattle.std.specs.Prelude.{ℕ, Bool, true, false, Some, None, Ok, Err, Option, Result}
 use Rattle.filing.specs.Faults.{name_number}
 use Rattle.calls.specs.declared.files.faults.IdentifyFault.{IdentifyFault}

@@ -21,7 +21,8 @@ book_in c = record {
   lives = c.register.lives;
 }
 
--- the checker with one line more judged and refused in the file n, unless that takes none: all else of it is the same
+-- the checker with one line more judged and refused in the file n, unless that takes none: all else
+-- of it is the same
 abbrev pub one_refused_in : {S M : Type 0} → Checker S M → ℕ → Checker S M
 one_refused_in c n = record c { files = with_files (slice_set c.files.files n (counted false (file_of c.files.files n))) c.files }
 

@@ -5,7 +5,7 @@ use Rattle.std.specs.List.{AllZip}
 use Rattle.life.specs.Lives.{Lives, look}
 use Rattle.life.specs.Parts.{KeyParts, LifeParts}
 use Rattle.book.specs.Book.{Call, empty_book}
-use Rattle.book.specs.FileLaws.{Said}
+use Rattle.book.specs.FileLaws.{AnsweredCall}
 use Rattle.book.specs.Laws.{log, deeds, Tells}
 use Rattle.calls.specs.declared.call.Call.{Call as Asked}
 use Rattle.calls.specs.declared.completed.CompletedRun.{CompletedRun}
@@ -31,8 +31,8 @@ pub record HasRun {S M : Type 0} (weighing : Ghosts M) (capacity : ℕ) (calls :
   pub kinds : TellKinds calls (vec_items run.answers)
 
 -- the calls of a run, each with its answer
-abbrev pub run_said : {S M : Type 0} → List Asked → CompletedRun S M → List Said
-run_said calls run = zip (calls_said calls) (answers_said (vec_items run.answers))
+abbrev pub answered_calls : {S M : Type 0} → List Asked → CompletedRun S M → List AnsweredCall
+answered_calls calls run = zip (calls_said calls) (answers_said (vec_items run.answers))
 
 -- a key has a life after these calls exactly when its accepted lines tell of that life
 abbrev pub EachLifeTold : ℕ → List Call → Lives → Type 0

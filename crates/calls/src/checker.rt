@@ -6,6 +6,8 @@ use life::Store;
 use measure::Measure;
 use register::Register;
 
+/// Judges report lines over a store of lives, by its lists of entities and contracts, and counts them
+/// in files. Files are called by their tokens, which have the checker's lifetime `'id` (`with_mark`).
 #[derive(Drop)]
 pub struct Checker<'id, 's, S: Store, M: Measure> {
     pub(crate) register: Register<'s, S, M>,

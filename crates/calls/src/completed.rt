@@ -6,8 +6,8 @@ use crate::checker::Checker;
 use life::Store;
 use measure::Measure;
 
-// The checker, which can be read; its answers, of which those to calls for the total say 'accepted'; and the totals that it was asked for. Both are in the order of
-// the calls, in two lists, as the book gives them.
+/// A checker after a list of calls, which can be read; its answers, of which those to calls for the
+/// total say 'accepted'; and the totals that it was asked for. Both are in the order of the calls.
 #[derive(Drop)]
 pub struct CompletedRun<'s, S: Store, M: Measure> {
     pub(crate) checker: Checker<'static, 's, S, M>,

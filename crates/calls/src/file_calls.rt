@@ -12,8 +12,8 @@ use measure::Measure;
 use std::alloc::AllocError;
 
 impl<'id, 's, S: Store, M: Measure> Checker<'id, 's, S, M> {
-    /// Reserves places for so many more files, so that naming them wants no memory. Memory is wanting
-    /// only where fewer places are left, and then the checker is what it was.
+    /// Reserves places for so many more files, so that naming them wants no memory. Memory is
+    /// wanting only where fewer places are left, and then the checker is what it was.
     pub fn reserve(&mut self, files: usize) -> Result<(), AllocError>
         ensures room { OnOk result (HasPlaces self.new files) }
         ensures kept { KeepsPlaces self.old self.new }
@@ -25,9 +25,9 @@ impl<'id, 's, S: Store, M: Measure> Checker<'id, 's, S, M> {
         self.files.reserve(files)
     }
 
-    /// Names a file; its number is how many were named before. Where it is refused, and where memory is
-    /// wanting, which is no answer, the checker is what it was. Memory is wanting only where the name is
-    /// good and no place is left for it (`reserve`).
+    /// Names a file; its number is how many were named before. Where it is refused, and where
+    /// memory is wanting, which is no answer, the checker is what it was. Memory is wanting only
+    /// where the name is good and no place is left for it (`reserve`).
     pub fn name_file(&mut self, name: &[u8]) -> Result<NamedFile<'id>, NamingError>
         ensures number { IfOk result (λ file. file.number ≡ length (self.old.files.files)) }
         ensures follows { had_memory result ≡ true → Continues M.Measure self.old (NameFile name.now) (naming_answer result) self.new }
@@ -40,8 +40,8 @@ impl<'id, 's, S: Store, M: Measure> Checker<'id, 's, S, M> {
         self.files.name(name)
     }
 
-    /// Identifies a named file by the code of its entity. A refusal hands the token back as it was, and
-    /// the checker is what it was.
+    /// Identifies a named file by the code of its entity. A refusal hands the token back as it was,
+    /// and the checker is what it was.
     pub fn identify(
         &mut self,
         file: NamedFile<'id>,

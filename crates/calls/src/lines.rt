@@ -16,8 +16,8 @@ use line::field_offset;
 use measure::Measure;
 
 impl<'id, 's, S: Store, M: Measure> Checker<'id, 's, S, M> {
-    /// Judges a line in an identified file, where it counts. Refused, the checker is what it was, but
-    /// that one line more is refused in its file, if that took it.
+    /// Judges a line in an identified file, where it counts. Refused, the checker is what it was,
+    /// but that one line more is refused in its file, if that took it.
     pub fn judge(&mut self, file: &IdentifiedFile<'id>, line: &[u8]) -> Result<(), JudgeFault>
         ensures follows { Continues M.Measure self.old (JudgeCall file.now.number line.now) (judge_answer result) self.new }
         ensures refused { OnErr result (self.new ≡ one_refused_in self.old file.now.number) }

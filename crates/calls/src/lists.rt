@@ -18,8 +18,8 @@ use register::Register;
 use std::alloc::{AllocError, Global};
 
 impl<'id, 's, S: Store, M: Measure> Checker<'id, 's, S, M> {
-    /// A checker that has had no calls, with room for as many lives as the store, which is emptied. The
-    /// tokens of its files have the lifetime of its mark. Memory is wanted for the lists alone.
+    /// A checker that has had no calls, with room for as many lives as the store, which is emptied.
+    /// The tokens of its files have the lifetime of its mark. Memory is wanted for the lists alone.
     pub fn new(
         heap: Global,
         store: &'s mut S,
@@ -40,8 +40,8 @@ impl<'id, 's, S: Store, M: Measure> Checker<'id, 's, S, M> {
         })
     }
 
-    /// Adds a reporting entity by its ACER code, or tells the first rule that it breaks, and then the
-    /// checker is what it was.
+    /// Adds a reporting entity by its ACER code, or tells the first rule that it breaks, and then
+    /// the checker is what it was.
     pub fn add_entity(&mut self, code: &[u8]) -> Result<(), EntityFault>
         ensures follows { Continues M.Measure self.old (AddEntity code.now) (entity_answer result) self.new }
         ensures refused { OnErr result (self.new ≡ self.old) }
@@ -61,7 +61,8 @@ impl<'id, 's, S: Store, M: Measure> Checker<'id, 's, S, M> {
         self.contracts.add(text)
     }
 
-    // The standing life of a line's key, or none; or the first rule of form or contract that the line breaks.
+    /// The standing life of a line's key, or none; or the first rule of form or contract that the
+    /// line breaks.
     pub fn look_up(&self, line: &[u8]) -> Result<Option<Life>, LineFault>
         ensures follows { Continues M.Measure self.now (LookUp line.now) (finding_answer result) self.now }
         ensures code { code_in line_fault_code result ≡ code_due (kind_of line.now) (finding_answer result) }
@@ -70,7 +71,7 @@ impl<'id, 's, S: Store, M: Measure> Checker<'id, 's, S, M> {
         Ok(self.register.find(&claim.key))
     }
 
-    // The total: the joined weights of the open lives.
+    /// The total: the joined weights of the open lives.
     pub fn total(&self) -> &M
         ensures told { (capacity : ℕ) (past : List Call) → Led M.Measure capacity past self.now → result.now ≡ book_total M.Measure (book_after capacity past) }
         ensures follows { Continues M.Measure self.now TotalCall AcceptedAnswer self.now }

@@ -7,8 +7,9 @@ use life::{CONTRACTS, Store};
 use measure::{Both, Measure, Sheet};
 
 impl<'id, 's, S: Store, B: Measure> Checker<'id, 's, S, Both<Sheet, B>> {
-    /// The position of a contract, in hundred-thousandths: what the open trades of the book bought less
-    /// what they sold, modulo 2^64, and the sum itself over a store with room for at most 65,535 lives.
+    /// The position of a contract, in hundred-thousandths: what the open trades of the book bought
+    /// less what they sold, modulo 2^64, and the sum itself over a store with room for at most
+    /// 65,535 lives.
     pub fn position(&self, contract: u8) -> i64
         ensures { TellsPosition ⟦<Both<Sheet, B> as Measure>⟧ self.now contract result }
     {

@@ -3,7 +3,7 @@ ghost use Rattle.std.specs.Prelude.{ℕ, List, [], ◌∷◌, ◌++◌, IfOk, On
 ghost use Rattle.book.specs.Book.{Call as BookCall};
 ghost use Rattle.book.specs.FileLaws.{FilesCount};
 ghost use Rattle.calls.specs.Held.{Led};
-ghost use Rattle.calls.specs.Runs.{HasRun, run_said, EachLifeTold};
+ghost use Rattle.calls.specs.Runs.{HasRun, answered_calls, EachLifeTold};
 ghost use Rattle.calls.specs.Said.{call_said, calls_said};
 
 use crate::answer::{Given, Reply};
@@ -52,17 +52,17 @@ impl<'s, S: Store, M: Measure> CompletedRun<'s, S, M> {
 }
 
 impl<'s, S: Store, M: Measure> Checker<'static, 's, S, M> {
-    /// A new checker over the store, and its answers to a whole list of calls. The lines judged in a
-    /// file are the calls on it that were answered neither 66 nor 9; a file ends at most once, and its
-    /// receipt has its counts. Each life is what the accepted lines of its key tell. Places for files
-    /// and answers are reserved first; where memory is wanting, there is no run.
+    /// A new checker over the store, and its answers to a whole list of calls. The lines judged in
+    /// a file are the calls on it that were answered neither 66 nor 9; a file ends at most once,
+    /// and its receipt has its counts. Each life is what the accepted lines of its key tell. Places
+    /// for files and answers are reserved first; where memory is wanting, there is no run.
     pub fn run(
         heap: Global,
         store: &'s mut S,
         calls: &[Call],
     ) -> Result<CompletedRun<'s, S, M>, AllocError>
         ensures runs { IfOk result (λ run. HasRun M.Measure (S.room store.old) (calls_said calls.now) run) }
-        ensures files { IfOk result (λ run. FilesCount (run_said calls.now run) run.checker.files.files) }
+        ensures files { IfOk result (λ run. FilesCount (answered_calls calls.now run) run.checker.files.files) }
         ensures lives { IfOk result (λ run. EachLifeTold (S.room store.old) (calls_said calls.now) run.checker.register.lives) }
     {
         let mut run = CompletedRun::begin(heap, store, calls)?;

@@ -5,7 +5,7 @@ use Rattle.std.specs.List.{AllByRecursion}
 use Rattle.text.specs.Bytes.{Bytes}
 use Rattle.filing.specs.Files.{Ended, File}
 use Rattle.book.specs.Book.{Book, Call, Withdraw, Close, Answer, Receipt, receipt, answers}
-use Rattle.book.specs.FileLaws as files
+use Rattle.book.specs.FileLaws.{AnsweredCall}
 use Rattle.calls.specs.declared.checker.Checker.{Checker}
 use Rattle.calls.specs.Follows.{book_after}
 use Rattle.calls.specs.Held.{book_in, Led}
@@ -23,7 +23,7 @@ given_by (Close n) (Receipt judged accepted refused) = (n, Receipt judged accept
 given_by _ _ = []
 
 -- the receipts that a run gave, in its order
-abbrev pub receipts_given : List files.Said → List FileReceipt
+abbrev pub receipts_given : List AnsweredCall → List FileReceipt
 receipts_given [] = []
 receipts_given (s ∷ said) = given_by s.0 s.1 ++ receipts_given said
 

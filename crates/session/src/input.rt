@@ -66,8 +66,8 @@ fn note<'c>(calls: &mut Vec<Call<'c>>, call: Option<Call<'c>>) -> Result<(), All
     Ok(())
 }
 
-/// The calls that the lines of an input make on a new checker, whatever room it has for lives, and the
-/// one that ends the file in hand at last.
+/// The calls that the lines of an input make on a new checker, whatever room it has for lives, and
+/// the one that ends the file in hand at last.
 pub fn calls_of_input<'c>(heap: Global, input: &'c [u8]) -> Result<Vec<Call<'c>>, AllocError>
     ensures calls { IfOk result (λ calls. (capacity : ℕ) →
         calls_said calls.items ≡ calls_of_input (empty_book capacity) input.now) }

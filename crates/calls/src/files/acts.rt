@@ -71,7 +71,8 @@ impl HeldFile {
         Ok(())
     }
 
-    // Whether it stands at a stage: withdrawing asks for a file that is only named, closing for an identified one.
+    // Whether it stands at a stage: withdrawing asks for a file that is only named, closing for an
+    // identified one.
     pub(crate) fn stands_at(&self, stage: Stage) -> Result<(), PlaceFault>
         ensures withdrawing { stage ≡ Named → place_refusal result ≡ first_fit withdrawing_rows (as_file self.now) }
         ensures closing { stage ≡ Identified → place_refusal result ≡ first_fit closing_rows (as_file self.now) }

@@ -32,8 +32,9 @@ impl FileList {
         self.files.as_slice().len()
     }
 
-    // Makes places for more files, so that naming them wants no memory. It is refused only where there are too few, and changes nothing then.
-    // Places are never given back: `kept` says so of each call that may make some.
+    // Makes places for more files, so that naming them wants no memory. It is refused only where
+    // there are too few, and changes nothing then. Places are never given back: `kept` says so of
+    // each call that may make some.
     pub(crate) fn reserve(&mut self, more: usize) -> Result<(), AllocError>
         ensures list { self.new.files ≡ self.old.files }
         ensures room { OnOk result (length self.old.files + more ≤ self.new.places) }
@@ -78,8 +79,8 @@ impl FileList {
         Ok(())
     }
 
-    // Ends a file that is only named, and gives its counts. Written apart from closing: a function over the stage
-    // would have the clauses of both, each under its stage, to save three lines.
+    // Ends a file that is only named, and gives its counts. Written apart from closing: a function
+    // over the stage would have the clauses of both, each under its stage, to save three lines.
     pub(crate) fn withdraw_at(&mut self, number: usize) -> Result<Receipt, PlaceFault>
         ensures told { place_refusal result ≡ first_fit withdrawing_rows (file_of self.old.files number) }
         ensures counts { IfOk result (λ receipt. receipt ≡ receipt_of (file_of self.old.files number)) }

@@ -1,4 +1,5 @@
-// A file as the list holds it: where it stands, the entity code of its name, and its lines accepted and refused, at most a million in all.
+// A file as the list holds it: where it stands, the entity code of its name, and its lines accepted
+// and refused, at most a million in all.
 ghost use Rattle.std.specs.Prelude.{◌+◌, ◌≤◌};
 
 use crate::files::stage::Stage;

@@ -24,8 +24,9 @@ fn entity_of(name: &[u8]) -> Result<Text<12>, NameFault>
 }
 
 impl FileList {
-    // Names a file: its number, which is how many files there were before. A refusal changes nothing, nor does want of memory. A name that lacks
-    // its form is refused whatever memory there is, and there is no want of it where a place is reserved.
+    // Names a file: its number, which is how many files there were before. A refusal changes
+    // nothing, nor does want of memory. A name that lacks its form is refused whatever memory there
+    // is, and there is no want of it where a place is reserved.
     pub(crate) fn name_next(&mut self, name: &[u8]) -> Result<usize, NamingError>
         ensures told { name_refusal result ≡ (if had_memory result then first_fit naming_rows name.now else None) }
         ensures number { IfOk result (λ n. n ≡ length self.old.files) }

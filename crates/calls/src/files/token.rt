@@ -3,23 +3,24 @@ ghost use Rattle.std.specs.Prelude.{◌≡◌};
 
 use std::marker::PhantomData;
 
-// Where a file with a token stands: it is only named, or it is identified.
+/// The stage of a file that is only named.
 pub struct OnlyNamed;
 
+/// The stage of a file that is identified.
 pub struct AlreadyIdentified;
 
 // Ties a token to its checker.
 pub(crate) type Brand<'id> = PhantomData<&'id mut &'id ()>;
 
-/// What one checker is made with. Each mark has a lifetime of its own, which the checker and the tokens
-/// of its files have too: so a token given to another checker does not build.
+/// What one checker is made with. Each mark has a lifetime of its own, which the checker and the
+/// tokens of its files have too: so a token given to another checker does not build.
 #[derive(Drop)]
 pub struct Mark<'id> {
     brand: Brand<'id>,
 }
 
-/// Gives a new mark to `work`, and answers what that answers. The checker that `work` makes with it,
-/// and the tokens of that checker's files, stay inside.
+/// Gives a new mark to `work`, and answers what that answers. The checker that `work` makes with
+/// it, and the tokens of that checker's files, stay inside.
 pub fn with_mark<R, F: for<'id> FnOnce(Mark<'id>) -> R>(work: F) -> R
     requires { (mark : _) → F.pre work mark }
     ensures { (mark : _) × F.post work mark result }
@@ -37,8 +38,8 @@ impl<'id> Mark<'id> {
     }
 }
 
-/// The token of a file, whose type says where the file stands: one named (`NamedFile`), or identified
-/// (`IdentifiedFile`). It is spent by ending its file, and by nothing else.
+/// The token of a file, whose type says where the file stands: one named (`NamedFile`), or
+/// identified (`IdentifiedFile`). It is spent by ending its file, and by nothing else.
 pub struct FileToken<'id, S> {
     number: usize,
     stands: PhantomData<S>,
