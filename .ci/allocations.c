@@ -1,6 +1,6 @@
-// The C library's allocating functions, of which one call fails: that of the number which the
-// environment's FAILING gives, from 1. How many calls there were is written, at the end, to the file
-// that COUNTED names.
+// The C library's allocating functions, of which one call fails: that of the number which FAILING
+// gives in the environment, from 1; and every later one too, where LATER_TOO is set. How many calls
+// there were is written, at the end, to the file that COUNTED names.
 #define _GNU_SOURCE
 #include <dlfcn.h>
 #include <errno.h>
@@ -11,8 +11,9 @@ static long calls;
 
 static int fails(void) {
   const char *number = getenv("FAILING");
+  long failing = number ? atol(number) : 0;
   calls++;
-  return number && calls == atol(number);
+  return failing && (calls == failing || (calls > failing && getenv("LATER_TOO")));
 }
 
 void *malloc(size_t size) {
