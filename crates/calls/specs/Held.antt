@@ -1,6 +1,6 @@
 -- What a checker holds, as a book; and the law over every history of calls that led to it.
 use Rattle.measure.specs.declared.measure.Measure.{Ghosts}
-use Rattle.std.specs.Prelude.{◌≡◌, ℕ, ◌+◌, ◌≤◌, false, List, [], ◌∷◌, ◌++◌, length, None, slice_set}
+use Rattle.std.specs.Prelude.{◌≡◌, ℕ, ◌+◌, ◌≤◌, Bool, true, false, count_by, List, [], ◌∷◌, ◌++◌, length, None, slice_set}
 use Rattle.text.specs.Bytes.{Bytes}
 use Rattle.text.specs.Rows.{first_fit}
 use Rattle.filing.specs.Names.{naming_rows}
@@ -37,6 +37,14 @@ KeepsPlaces was is = (more : ℕ) → HasPlaces was more → HasPlaces is more
 -- the checker with so many places for files in all: the rest of it is the same
 abbrev pub with_places : {S M : Type 0} → ℕ → Checker S M → Checker S M
 with_places n c = record c { files = record c.files { places = n } }
+
+abbrev pub names_file : Call → Bool
+names_file (NameFile name) = true
+names_file _ = false
+
+-- how many of the calls name a file
+abbrev pub names_in : List Call → ℕ
+names_in = count_by names_file
 
 -- the call names a file, and no row of naming refuses the name: the only call that may want memory
 abbrev pub NamesFile : Call → Type 0

@@ -36,6 +36,7 @@ impl<'id, 's, S: Store, M: Measure> Checker<'id, 's, S, M> {
         ensures reserved { HasPlaces self.old 1 → had_memory result ≡ true }
         ensures refused { OnErr result (self.new ≡ self.old) }
         ensures places { (more : ℕ) → HasPlaces self.old (more + 1) → HasPlaces self.new more }
+        ensures lives { self.new.register ≡ self.old.register }
     {
         self.files.name(name)
     }
@@ -51,6 +52,7 @@ impl<'id, 's, S: Store, M: Measure> Checker<'id, 's, S, M> {
         ensures follows { Continues M.Measure self.old (IdentifyCall file.entry.number code.now) (token_answer result) self.new }
         ensures refused { OnErr result (self.new ≡ self.old) }
         ensures places { KeepsPlaces self.old self.new }
+        ensures lives { self.new.register ≡ self.old.register }
     {
         self.files.identify(file, &self.entities, code)
     }
@@ -60,6 +62,7 @@ impl<'id, 's, S: Store, M: Measure> Checker<'id, 's, S, M> {
         ensures follows { Continues M.Measure self.old (WithdrawCall file.entry.number) (ending_answer result) self.new }
         ensures refused { OnErr result (self.new ≡ self.old) }
         ensures places { KeepsPlaces self.old self.new }
+        ensures lives { self.new.register ≡ self.old.register }
     {
         self.files.withdraw(file)
     }
@@ -69,6 +72,7 @@ impl<'id, 's, S: Store, M: Measure> Checker<'id, 's, S, M> {
         ensures follows { Continues M.Measure self.old (CloseCall file.entry.number) (ending_answer result) self.new }
         ensures refused { OnErr result (self.new ≡ self.old) }
         ensures places { KeepsPlaces self.old self.new }
+        ensures lives { self.new.register ≡ self.old.register }
     {
         self.files.close(file)
     }

@@ -46,6 +46,7 @@ impl<'id, 's, S: Store, M: Measure> Checker<'id, 's, S, M> {
         ensures follows { Continues M.Measure self.old (AddEntity code.now) (entity_answer result) self.new }
         ensures refused { OnErr result (self.new ≡ self.old) }
         ensures places { KeepsPlaces self.old self.new }
+        ensures lives { self.new.register ≡ self.old.register }
     {
         self.entities.add(code)
     }
@@ -57,6 +58,7 @@ impl<'id, 's, S: Store, M: Measure> Checker<'id, 's, S, M> {
         ensures follows { Continues M.Measure self.old (AddContract text.now) (contract_answer result) self.new }
         ensures refused { OnErr result (self.new ≡ self.old) }
         ensures places { KeepsPlaces self.old self.new }
+        ensures lives { self.new.register ≡ self.old.register }
     {
         self.contracts.add(text)
     }

@@ -2,7 +2,7 @@
 ghost use Rattle.std.specs.Prelude.{ℕ, List, [], ◌∷◌, ◌++◌, IfOk, OnOk};
 ghost use Rattle.book.specs.Book.{Call as BookCall};
 ghost use Rattle.book.specs.FileLaws.{FilesCount};
-ghost use Rattle.calls.specs.Held.{Led};
+ghost use Rattle.calls.specs.Held.{Led, HasPlaces, names_in};
 ghost use Rattle.calls.specs.Runs.{HasRun, answered_calls, EachLifeTold};
 ghost use Rattle.calls.specs.Said.{call_said, calls_said};
 
@@ -16,13 +16,14 @@ use measure::Measure;
 use std::alloc::{AllocError, Global};
 
 impl<'s, S: Store, M: Measure> CompletedRun<'s, S, M> {
-    // A run that has had no calls.
+    // A run that has had no calls, with places for the files that these name.
     fn begin(
         heap: Global,
         store: &'s mut S,
         calls: &[Call],
     ) -> Result<CompletedRun<'s, S, M>, AllocError>
-        ensures { IfOk result (λ run. HasRun M.Measure (S.room store.old) [] run) }
+        ensures runs { IfOk result (λ run. HasRun M.Measure (S.room store.old) [] run) }
+        ensures places { IfOk result (λ run. HasPlaces run.checker (names_in (calls_said calls.now))) }
     {
         let mut checker = Checker::new(heap, store, Mark::new())?;
         let names = calls

@@ -22,7 +22,7 @@ returns-clause-runs g c =
     let s = g.S.Store in
     let capacity = s.room c.args.store.now in
     subst (λ calls. HasRun m capacity calls c.loop-call.run) (said_all c.args.calls.now c.loop-call.call-index c.loop-call-test.false)
-    (c.loop-call.invariant capacity c.in_ok-run.ensures)
+    (c.loop-call.invariant capacity c.in_ok-run.ensures.runs)
 
 pub returns-clause-files : goal.returns-clause-files
 returns-clause-files g c = files_counted g.M.Measure _ _ _ _ _ _ (returns-clause-runs g c).ran
