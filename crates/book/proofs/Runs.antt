@@ -4,6 +4,7 @@ use Rattle.text.specs.Bytes.{Bytes}
 use Rattle.contract.specs.ContractList as contract_list
 use Rattle.filing.specs.Entities as entity_list
 use Rattle.book.specs.Book.{Book, with_entities, with_contracts, Call, AddEntity, AddContract, verdict, changed, after, answer, end, answers}
+use Rattle.book.specs.Laws.{entry, log}
 
 -- ---- Runs one after another
 
@@ -14,6 +15,11 @@ end_append (c ∷ xs) ys b = end_append xs ys (after b c)
 pub answers_append : (xs ys : List Call) (b : Book) → answers b (xs ++ ys) ≡ answers b xs ++ answers (end b xs) ys
 answers_append [] ys b = refl
 answers_append (c ∷ xs) ys b = ap (λ as-told. answer b c ∷ as-told) (answers_append xs ys (after b c))
+
+-- the log of a run is those of its parts, one after another
+pub log_append : (xs ys : List Call) (b : Book) → log b (xs ++ ys) ≡ log b xs ++ log (end b xs) ys
+log_append [] ys b = refl
+log_append (c ∷ xs) ys b = ap (λ es. entry b c (verdict b c) ∷ es) (log_append xs ys (after b c))
 
 -- ---- The lists after adding
 

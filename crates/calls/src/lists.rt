@@ -2,6 +2,8 @@
 ghost use Rattle.std.specs.Prelude.{◌≡◌, ℕ, ◌+◌, List, [], length, IfOk, OnErr};
 ghost use Rattle.book.specs.Book.{Call, AddEntity, AddContract, LookUp, Total as TotalCall, Accepted as AcceptedAnswer};
 ghost use Rattle.claims.specs.Faults.{line_fault_code};
+ghost use Rattle.contract.specs.ContractList.{WithinLimits};
+ghost use Rattle.filing.specs.Entities.{CodesWithin};
 ghost use Rattle.calls.specs.Codes.{code_in, code_due, kind_of};
 ghost use Rattle.calls.specs.Follows.{book_after, book_total};
 ghost use Rattle.calls.specs.Held.{Led, Continues, KeepsPlaces};
@@ -47,6 +49,7 @@ impl<'id, 's, S: Store, M: Measure> Checker<'id, 's, S, M> {
         ensures refused { OnErr result (self.new ≡ self.old) }
         ensures places { KeepsPlaces self.old self.new }
         ensures lives { self.new.register ≡ self.old.register }
+        ensures limits { CodesWithin self.new.entities }
     {
         self.entities.add(code)
     }
@@ -59,6 +62,7 @@ impl<'id, 's, S: Store, M: Measure> Checker<'id, 's, S, M> {
         ensures refused { OnErr result (self.new ≡ self.old) }
         ensures places { KeepsPlaces self.old self.new }
         ensures lives { self.new.register ≡ self.old.register }
+        ensures limits { WithinLimits self.new.contracts }
     {
         self.contracts.add(text)
     }

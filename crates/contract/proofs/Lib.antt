@@ -1,3 +1,4 @@
+pub mod Limits
 pub mod NameTexts
 pub mod Readings
 pub mod Searches

@@ -1,9 +1,14 @@
 -- The first contract with an id, by where it stands.
-use Rattle.std.proofs.Common.{◌≡◌, ℕ, zero, suc, ◌+◌, ◌*◌, ◌<◌, ◌≤◌, sum_by, Bool, true, false, cond, List, [], ◌∷◌, map, length, get_or, Some, None, sym, refl, ap, ◌∙◌, arith}
+use Rattle.std.proofs.Common.{◌≡◌, ℕ, zero, suc, ◌+◌, ◌*◌, ◌<◌, ◌≤◌, ◌&&◌, nat_le, sum_by, Bool, true, false, cond, List, [], ◌∷◌, map, length, get_or, Some, None, sym, refl, ap, ◌∙◌, arith}
+use Rattle.std.specs.Bool.{Decides}
 use Rattle.std.specs.List.{position_from}
+use Rattle.std.proofs.lemmas.Bool.Decides.{nat_tests}
+use Rattle.std.proofs.lemmas.List.{length-take-le}
+use Rattle.std.proofs.lemmas.Slice.Eq.{bytes_eq-Decides}
 use Rattle.std.proofs.lemmas.Option.{none-some}
 use Rattle.std.proofs.lemmas.List.Sums.{sum_by-cons}
-use Rattle.text.specs.Bytes.{Bytes}
+use Rattle.text.specs.Bytes.{Bytes, provided}
+use Rattle.text.specs.Texts.{text_of}
 use Rattle.contract.specs.declared.held.HeldContract.{HeldContract}
 use Rattle.contract.specs.ContractList.{numbered}
 use Rattle.contract.specs.Held.{contract_of, has_id}
@@ -30,6 +35,26 @@ none_found n m (c ∷ cs) id e = go (has_id id c) e (none_found (suc n) (m + 1) 
         → cond b (Some (n, contract_of c)) (numbered (suc n) (map contract_of cs) id) ≡ None
     go true f h = absurd (none-some m (sym f))
     go false f h = h f
+
+-- an id of more than 32 bytes is no contract's
+pub no_id : (b : Bool) (c : HeldContract) (id : Bytes)
+    → 32 < length id → Decides b (text_of c.id ≡ id) → b ≡ false
+no_id true c id l p =
+    let same : length (text_of c.id) ≡ length id = ap length (p.0 refl) in
+    absurd (omega (arith, same, length-take-le c.id.len c.id.bytes (omega (arith, c.id.ok))))
+no_id false c id l p = refl
+
+pub no_place : (m : ℕ) (cs : List HeldContract) (id : Bytes)
+    → 32 < length id → position_from (has_id id) m cs ≡ None
+no_place m [] id l = refl
+no_place m (c ∷ cs) id l =
+    let other = no_id (has_id id c) c id l (bytes_eq-Decides (text_of c.id) id) in
+    ap (λ b. cond b (Some m) (position_from (has_id id) (m + 1) cs)) other
+    ∙ no_place (m + 1) cs id l
+
+pub too_long : (id : Bytes)
+    → None ≡ provided (nat_le (length id) 32 && nat_le (length id) 255) id → 32 < length id
+too_long id e = grind (arith, nat_tests)
 
 -- no contract has more than eight names
 pub eight_each : (cs : List HeldContract) → sum_by (λ c. length c.names.texts.items) cs ≤ 8 * length cs

@@ -1,6 +1,7 @@
 -- Contracts: their text, the list of them, and what a read line owes to the list.
-use Rattle.std.specs.Prelude.{ℕ, suc, ◌+◌, Bool, true, false, cond, not, ◌&&◌, ◌||◌, List, [], ◌∷◌, ◌++◌, length, is_some, Some, None, Ok, Err, codes, sum_by, Option, Result, ◌==◌, nat_le, nat_lt}
+use Rattle.std.specs.Prelude.{ℕ, suc, ◌+◌, ◌≤◌, Bool, true, false, cond, not, ◌&&◌, ◌||◌, List, [], ◌∷◌, ◌++◌, length, is_some, Some, None, Ok, Err, codes, sum_by, Option, Result, ◌==◌, nat_le, nat_lt}
 use Rattle.std.specs.Char.{is_ascii_uppercase}
+use Rattle.std.specs.List.{AllByRecursion}
 use Rattle.std.specs.Str.{bytes_eq}
 use Rattle.text.specs.Bytes.{Bytes, every, among, piece, provided, has_form, value, word_of}
 use Rattle.text.specs.Forms.{id_form, names_form}
@@ -74,6 +75,18 @@ name_limit = 255
 -- how many index names the contracts have in all
 abbrev pub names_in : List Contract → ℕ
 names_in cs = sum_by (λ c. length c.index_names) cs
+
+-- an id of at most 32 bytes, and at most eight index names, each of at most 32 bytes
+pub record ContractWithin (c : Contract) : Type 0 where
+  pub id_short : length c.contract_id ≤ 32
+  pub names_few : length c.index_names ≤ 8
+  pub names_short : AllByRecursion (λ t. length t ≤ 32) c.index_names
+
+-- what holds of every list, whatever was added: no more contracts than may be listed, and each of
+-- them within its own limits
+pub record WithinLimits (cs : List Contract) : Type 0 where
+  pub few : length cs ≤ contract_limit
+  pub each : AllByRecursion ContractWithin cs
 
 -- the contract with an id, and its number, counting from n
 abbrev pub numbered : ℕ → List Contract → Bytes → Option (ℕ × Contract)

@@ -3,7 +3,7 @@ ghost use Rattle.std.specs.Prelude.{◌≡◌, ◌+◌, ◌<◌, ◌≤◌, fals
 ghost use Rattle.text.specs.Listings.{listing};
 ghost use Rattle.text.specs.Rows.{first_fit, settled_by};
 ghost use Rattle.line.specs.Reports.{said};
-ghost use Rattle.contract.specs.ContractList.{listed, names_in, needs_style, listing_rows, adding, added, due};
+ghost use Rattle.contract.specs.ContractList.{listed, names_in, WithinLimits, needs_style, listing_rows, adding, added, due};
 ghost use Rattle.contract.specs.Held.{names_of, contract_of, has_id, added_in, found_in, number_in};
 
 use crate::faults::{ContractFault, ListFault};
@@ -13,7 +13,7 @@ use crate::names::{has_all, has_twice};
 use crate::offers::read_contract;
 use line::{Report, field_offset};
 use std::alloc::{AllocError, Global};
-use text::Names;
+use text::{Names, Text};
 
 // The most contracts, and the most index names of all contracts together.
 const MOST_CONTRACTS: usize = 63;
@@ -43,13 +43,13 @@ impl HeldContract {
     }
 }
 
-// Where the contract with an id stands.
+// Where the contract with an id stands. The id is made a text first: texts are compared over all
+// their places at once, and slices byte by byte (docs/FIGURES.md).
 fn place_of(contracts: &[HeldContract], id: &[u8]) -> Option<usize>
     ensures { result ≡ position (has_id id.now) contracts.now }
 {
-    contracts
-        .iter()
-        .position(|contract| contract.id.as_slice() == id)
+    let id = Text::new(id)?;
+    contracts.iter().position(|contract| contract.id == id)
 }
 
 impl ContractList {
@@ -128,7 +128,9 @@ impl ContractList {
     pub fn add(&mut self, text: &[u8]) -> Result<u8, ContractFault>
         ensures told { added_in result ≡ adding self.old text.now }
         ensures list { self.new ≡ added self.old text.now }
+        ensures limits { WithinLimits self.new }
     {
+        let _ = &self.contracts;
         let contract = read_contract(text)?;
         self.check(&contract, text)?;
         self.contracts.push_reserved(contract);
@@ -139,7 +141,9 @@ impl ContractList {
     pub fn number_of(&self, report: &Report) -> Result<u8, ListFault>
         ensures told { number_in result ≡ due self.now (said report.now) }
         ensures small { IfOk result (λ n. n < 64) }
+        ensures limits { WithinLimits self.now }
     {
+        let _ = &self.contracts;
         if report.venue == b"XBIL".as_slice() {
             return Ok(0);
         }

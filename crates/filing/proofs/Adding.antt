@@ -1,10 +1,13 @@
 -- Adding an entity, by the rows of the table.
 use Rattle.std.proofs.Common.{◌≡◌, ℕ, Bool, true, cond, not, ◌&&◌, leb, List, [], ◌∷◌, ◌++◌, length, is_some, Some, None, Option, sym, ap, ◌∙◌, arith}
+use Rattle.std.proofs.lemmas.List.{length-take}
 use Rattle.std.proofs.lemmas.Bool.Decides.{nat_tests}
+use Rattle.text.specs.declared.bounded.Text.{Text}
 use Rattle.text.specs.Bytes.{Bytes, among, has_form, provided}
 use Rattle.text.specs.Forms.{code_form}
 use Rattle.text.specs.Rows.{first_fit}
-use Rattle.filing.specs.Entities.{entity_rows, added}
+use Rattle.text.specs.Texts.{texts_of}
+use Rattle.filing.specs.Entities.{CodesWithin, entity_rows, added}
 
 -- a code has twelve bytes, and says itself
 pub twelve : (t u : Bytes) → Some u ≡ code_form t → length t ≡ 12
@@ -32,3 +35,12 @@ module _ (es : List Bytes) (code : Bytes) (o : Option Bytes) (known full : Bool)
 
   pub leaves : cond (is_some (row_found o known full)) es (es ++ code ∷ []) ≡ added es code
   leaves = ap (λ o. cond (is_some o) es (es ++ code ∷ [])) fitting
+
+-- ---- Limits
+
+-- each code has at most twelve bytes, by the type of what the list holds
+pub codes_within : (ts : List (Text 12)) → CodesWithin (texts_of ts)
+codes_within [] = tt
+codes_within (t ∷ ts) =
+    let ok = t.ok in
+    (omega (arith, ok.0, length-take t.len t.bytes), codes_within ts)

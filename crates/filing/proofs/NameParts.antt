@@ -1,7 +1,8 @@
 -- The parts of a name, from the left.
-use Rattle.std.proofs.Common.{◌≡◌, ℕ, zero, suc, ◌+◌, ◌<◌, ◌≤◌, Bool, true, false, cond, not, ◌&&◌, eqb, ltb, List, [], ◌∷◌, ◌++◌, length, take, drop, get_or, is_some, Some, None, Ok, Option, Result, sym, refl, ap, subst, ◌∙◌, ⊎_elim, append_assoc, arith}
+use Rattle.std.proofs.Common.{◌≡◌, ℕ, zero, suc, ◌+◌, ◌-◌, ◌<◌, ◌≤◌, Bool, true, false, cond, not, ◌&&◌, eqb, ltb, List, [], ◌∷◌, ◌++◌, length, take, drop, get_or, is_some, Some, None, Ok, codes, Option, Result, sym, refl, ap, subst, ◌∙◌, ⊎_elim, append_assoc, arith}
 use Rattle.std.specs.Borrow.{Bor}
 use Rattle.std.specs.Bool.{MatchBool}
+use Rattle.std.specs.Char.{is_ascii_digit}
 use Rattle.std.specs.Fn.{Mut, CalledAt, ComputesKey}
 use Rattle.std.specs.List.{slice_split, onto_first, IsFirstMatchOrLen, All}
 use Rattle.std.specs.Slice.Iter.{split_steps, split_rest, split_done, split_callee}
@@ -9,9 +10,10 @@ use Rattle.std.specs.declared.slice.Split.{Split}
 use Rattle.std.proofs.lemmas.Fn.{always_returns_same}
 use Rattle.std.proofs.lemmas.Grind.{common_steps}
 use Rattle.std.proofs.lemmas.List.Splits.{slice_split_none, slice_split_at}
-use Rattle.std.proofs.lemmas.List.{append-nil, length-take-le, drop-drop}
+use Rattle.std.proofs.lemmas.Slice.Eq.{bytes_eq-Decides}
+use Rattle.std.proofs.lemmas.List.{append-nil, take_all, take-append-drop, length-take-le, drop-drop}
 use Rattle.std.proofs.lemmas.List.Sums.{prefix_len-le-length}
-use Rattle.std.proofs.lemmas.Bool.{cases_Bool}
+use Rattle.std.proofs.lemmas.Bool.{cases_Bool, and_parts, and_right}
 use Rattle.std.proofs.lemmas.Bool.Decides.{nat_tests}
 use Rattle.text.specs.Bytes as text
 use Rattle.text.specs.Bytes.{Bytes, between, every, pieces, piece, start, then, value, has_form}
@@ -90,6 +92,47 @@ module _ {F : Type 0} (g : Mut F (Bor ℕ × Unit {0}) Bool) {name : Bytes} {s t
 
 abbrev around : Bytes → Bytes → Bytes → Bytes → Bool
 around d s v l = a_date d && (a_schema s && (a_version v && a_last l))
+
+-- ---- The last part has no `_`: a name with one there has more than five parts
+
+digits_xml : (xs : Bytes) → every is_ascii_digit xs ≡ true → span_to 95 (xs ++ codes ".xml") ≡ length (xs ++ codes ".xml")
+digits_xml [] e = refl
+digits_xml (x ∷ xs) e =
+    let d = and_parts (is_ascii_digit x) (every is_ascii_digit xs) e in
+    let h = digits_xml xs d.1 in
+    let n : eqb x 95 ≡ false = grind (arith, nat_tests, d.0) in
+    ap (λ t. cond (not t) (1 + span_to 95 (xs ++ codes ".xml")) 0) n ∙ omega arith
+
+no_bar : (t : Bytes) → a_last t ≡ true → span_to 95 t ≡ length t
+no_bar t e =
+    let p = and_parts (between 5 13 (length t)) _ e in
+    let q = and_parts (every is_ascii_digit (take (length t - 4) t)) _ p.1 in
+    let s = (bytes_eq-Decides (drop (length t - 4) t) (codes ".xml")).0 q.1 in
+    let w : take (length t - 4) t ++ codes ".xml" ≡ t = ap (λ u. take (length t - 4) t ++ u) (sym s) ∙ take-append-drop (length t - 4) t in
+    ap (span_to 95) (sym w) ∙ digits_xml (take (length t - 4) t) q.0 ∙ ap length w
+
+barred : (t : Bytes) → span_to 95 t < length t → a_last t ≡ false
+barred t l =
+    ⊎_elim
+    (λ (y : a_last t ≡ true). absurd (omega (arith, no_bar t y)))
+    (λ (n : a_last t ≡ false). n)
+    (cases_Bool (a_last t))
+
+never_around : (d s v l : Bytes) → a_last l ≡ false → around d s v l ≡ false
+never_around d s v l e = and_right (a_date d) _ (and_right (a_schema s) _ (and_right (a_version v) _ e))
+
+-- so five parts, the last one cut no more, fit exactly where all that follow do
+last_part : (d s v c l : Bytes) → code_in (d ∷ s ∷ v ∷ c ∷ pieces 95 l) ≡ cond (around d s v l) (code_form c) None
+last_part d s v c l =
+    ⊎_elim
+    (λ (y : ltb (span_to 95 l) (length l) ≡ true).
+    let h : span_to 95 l < length l = grind (arith, nat_tests) in
+    ap (λ ts. code_in (d ∷ s ∷ v ∷ c ∷ ts)) (piece_and_more 95 l h ∙ ap (λ ts. front_to 95 l ∷ ts) (first_after 95 (drop (span_to 95 l + 1) l)))
+    ∙ sym (ap (λ b. cond b (code_form c) None) (never_around d s v l (barred l h))))
+    (λ (n : ltb (span_to 95 l) (length l) ≡ false).
+    let h : length l ≤ span_to 95 l = grind (arith, nat_tests) in
+    ap (λ ts. code_in (d ∷ s ∷ v ∷ c ∷ ts)) (piece_alone 95 l h ∙ ap (λ u. u ∷ []) (take_all (span_to 95 l) l h)))
+    (cases_Bool (ltb (span_to 95 l) (length l)))
 
 module _ (name : Bytes) where
   pub too_few : (ts : List Bytes) → pieces 95 name ≡ ts → code_in ts ≡ None → None ≡ code_there name

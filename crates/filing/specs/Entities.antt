@@ -1,11 +1,16 @@
 -- The list of reporting entities: ACER codes, in the order of adding.
-use Rattle.std.specs.Prelude.{ℕ, cond, not, List, [], ◌∷◌, ◌++◌, length, is_some, nat_le}
+use Rattle.std.specs.Prelude.{ℕ, ◌≤◌, cond, not, List, [], ◌∷◌, ◌++◌, length, is_some, nat_le}
+use Rattle.std.specs.List.{AllByRecursion}
 use Rattle.text.specs.Bytes.{Bytes, among, has_form}
 use Rattle.text.specs.Forms.{code_form}
 use Rattle.text.specs.Rows.{Row, row, first_fit}
 
 abbrev pub entity_limit : ℕ
 entity_limit = 32
+
+-- what holds of every list, whatever was added: each code has at most twelve bytes
+abbrev pub CodesWithin : List Bytes → Type 0
+CodesWithin es = AllByRecursion (λ code. length code ≤ 12) es
 
 -- the table of refusals in adding an entity, by the entities known and the code
 abbrev pub entity_rows : List (Row (List Bytes × Bytes))

@@ -4,7 +4,7 @@ ghost use Rattle.text.specs.Bytes.{among};
 ghost use Rattle.text.specs.Forms.{code_form};
 ghost use Rattle.text.specs.Rows.{first_fit};
 ghost use Rattle.text.specs.Texts.{text_in};
-ghost use Rattle.filing.specs.Entities.{entity_rows, added};
+ghost use Rattle.filing.specs.Entities.{CodesWithin, entity_rows, added};
 ghost use Rattle.filing.specs.Faults.{entity_number as number_of, refused_by};
 
 use crate::entity_list::EntityList;
@@ -58,7 +58,9 @@ impl EntityList {
     pub fn add(&mut self, code: &[u8]) -> Result<(), EntityFault>
         ensures told { refused_by result ≡ first_fit entity_rows (self.old, code.now) }
         ensures list { self.new ≡ added self.old code.now }
+        ensures limits { CodesWithin self.new }
     {
+        let _ = &self.codes;
         let text = code_of(code).ok_or(EntityFault::Form)?;
         if self.knows(code) {
             return Err(EntityFault::Known);
@@ -72,7 +74,8 @@ impl EntityList {
 
     // Whether an entity is known.
     pub fn knows(&self, code: &[u8]) -> bool
-        ensures { result ≡ among self.now code.now }
+        ensures known { result ≡ among self.now code.now }
+        ensures limits { CodesWithin self.now }
     {
         is_among(self.codes.as_slice(), code)
     }

@@ -69,6 +69,10 @@ module _ {K V : Type 0} {same : K → K → Bool} (equal : (a b : K) → same a 
       (λ _. unique_erase k ps q.1)
       (λ _. unique_from p (erase k ps) (look_erase p.0 k ps ∙ ap (cond (same p.0 k) None) q.0 ∙ cond_same _ None) (unique_erase k ps q.1))
 
+  -- no key stands twice after a value is put in
+  pub unique_put : (k : K) (v : V) (ps : List (K × V)) → Unique ps → Unique ((k, v) ∷ erase k ps)
+  unique_put k v ps u = unique_from (k, v) (erase k ps) (erase_same k ps) (unique_erase k ps u)
+
   pub same_erase : (k : K) (ps qs : List (K × V)) → Same ps qs → Same (erase k ps) (erase k qs)
   same_erase k ps qs h j = look_erase j k ps ∙ ap (cond (same j k) None) (h j) ∙ sym (look_erase j k qs)
 
@@ -79,6 +83,10 @@ module _ {K V : Type 0} {same : K → K → Bool} (equal : (a b : K) → same a 
       (λ e. ap (λ x. look x ps) (equal j k e) ∙ h ∙ sym (look_erase j k ps ∙ cond-true _ _ _ e))
       (λ e. sym (look_erase j k ps ∙ cond-false _ _ _ e))
       (cases_Bool (same j k))
+
+  -- a value put into two lists with the same look-ups
+  pub same_put : (k : K) (v : V) (ps qs : List (K × V)) → Same ps qs → Same ((k, v) ∷ erase k ps) ((k, v) ∷ erase k qs)
+  same_put k v ps qs h j = look_put j k v ps ∙ ap (cond (same j k) (Some v)) (h j) ∙ sym (look_put j k v qs)
 
   -- what is left of two lists when the first pair of one is taken out of both
   pub same_rest : (p : K × V) (ps qs : List (K × V)) → Unique (p ∷ ps) → Same (p ∷ ps) qs → Same ps (erase p.0 qs)

@@ -33,6 +33,14 @@ unique_erase = by_key.unique_erase parts_eq
 pub same_erase : (k : KeyParts) (ps qs : Lives) → Same ps qs → Same (erase k ps) (erase k qs)
 same_erase = by_key.same_erase parts_eq
 
+-- no key stands twice after a life is put in
+pub unique_put : (k : KeyParts) (l : LifeParts) (ps : Lives) → Unique ps → Unique ((k, l) ∷ erase k ps)
+unique_put = by_key.unique_put parts_eq
+
+-- a life put into two lists with the same look-ups
+pub same_put : (k : KeyParts) (l : LifeParts) (ps qs : Lives) → Same ps qs → Same ((k, l) ∷ erase k ps) ((k, l) ∷ erase k qs)
+same_put = by_key.same_put parts_eq
+
 -- what is left of two lists when the first pair of one is taken out of both
 pub same_rest : (p : Pair) (ps qs : Lives) → Unique (p ∷ ps) → Same (p ∷ ps) qs → Same ps (erase p.0 qs)
 same_rest = by_key.same_rest parts_eq

@@ -21,6 +21,14 @@ unique_parts = by_key.unique_parts key_eq
 pub unique_from : (p : Key × Life) (ps : List (Key × Life)) → look p.0 ps ≡ None → Unique ps → Unique (p ∷ ps)
 unique_from = by_key.unique_from key_eq
 
+-- no key stands twice after a life is put in
+pub unique_put : (k : Key) (l : Life) (ps : List (Key × Life)) → Unique ps → Unique ((k, l) ∷ erase k ps)
+unique_put = by_key.unique_put key_eq
+
+-- a life put into two lists with the same look-ups
+pub same_put : (k : Key) (l : Life) (ps qs : List (Key × Life)) → Same ps qs → Same ((k, l) ∷ erase k ps) ((k, l) ∷ erase k qs)
+same_put = by_key.same_put key_eq
+
 -- nothing to take out
 pub same_absent : (k : Key) (ps : List (Key × Life)) → look k ps ≡ None → Same ps (erase k ps)
 same_absent = by_key.same_absent key_eq

@@ -12,7 +12,7 @@ use Rattle.life.specs.Parts.{KeyParts, LifeParts, key_parts, life_parts}
 use Rattle.life.specs.Lives.{Lives, plain_pair, plain, look, Unique, Same, altered, erase}
 use Rattle.life.proofs.KeyOrder.{parts_eq}
 use Rattle.life.proofs.Lookups as stored
-use Rattle.life.proofs.Lives.{look_erase, look_put, look_altered_at, unique_from}
+use Rattle.life.proofs.Lives.{look_erase, look_put, look_altered_at, unique_from, length_same}
 
 -- ---- Look-ups
 
@@ -98,3 +98,7 @@ module _ (k : Key) (xs xs' : List (Key × Life)) (ls : Lives) (s : Same (plain x
       ∙ look_erase j (key_parts k) (plain xs)
       ∙ ap (cond (same_key j (key_parts k)) None) (s j)
       ∙ sym (look_erase j (key_parts k) ls)
+
+-- as many lives as pairs
+pub plain_length : (xs : List (Key × Life)) (ls : Lives) → pairs.Unique xs → Unique ls → Same (plain xs) ls → length ls ≡ length xs
+plain_length xs ls u w s = sym (length_same (plain xs) ls (plain_unique xs u) w s) ∙ length-map xs plain_pair

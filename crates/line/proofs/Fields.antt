@@ -1,6 +1,8 @@
 -- The fields that a reader comes to are those of the line cut at its semicolons.
-use Rattle.std.proofs.Common.{◌≡◌, ℕ, zero, suc, ◌+◌, ◌<◌, true, false, eqb, ltb, List, ◌∷◌, length, drop, count_by, sym, refl, ap, ◌∙◌, ⊎_elim, add_assoc, arith}
+use Rattle.std.proofs.Common.{◌≡◌, ℕ, zero, suc, ◌+◌, ◌<◌, ◌≤◌, Bool, true, false, cond, eqb, ltb, sum_by, List, ◌∷◌, length, drop, count_by, sym, refl, ap, ◌∙◌, ⊎_elim, add_assoc, arith}
+use Rattle.std.specs.Int.{from_bool}
 use Rattle.std.proofs.lemmas.List.{drop-drop, length-take-le}
+use Rattle.std.proofs.lemmas.List.Sums.{count_by-le-length}
 use Rattle.std.proofs.lemmas.List.Splits.{length-slice_split}
 use Rattle.std.proofs.lemmas.Bool.{cases_Bool}
 use Rattle.std.proofs.lemmas.Bool.Decides.{nat_tests}
@@ -22,6 +24,20 @@ text k bs = front (drop (offset k bs) bs)
 -- how many semicolons a text has
 abbrev pub separators_in : Bytes → ℕ
 separators_in bs = count_by (λ b. eqb b 59) bs
+
+-- what a byte adds to their number
+abbrev pub is_separator : ℕ → ℕ
+is_separator b = from_bool (eqb b 59)
+
+one_or_none : (t : Bool) → from_bool t ≡ cond t 1 0
+one_or_none true = refl
+one_or_none false = refl
+
+pub separators_sum : (bs : Bytes) → sum_by is_separator bs ≡ separators_in bs
+separators_sum bs = λ i. sum_by (λ b. one_or_none (eqb b 59) i) bs
+
+pub separators_within : (bs : Bytes) → sum_by is_separator bs ≤ length bs
+separators_within bs = omega (arith, separators_sum bs, count_by-le-length (λ b. eqb b 59) bs)
 
 -- there is one field more than there are semicolons
 pub one_more : (bs : Bytes) → length (fields bs) ≡ separators_in bs + 1

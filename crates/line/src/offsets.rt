@@ -3,11 +3,12 @@ ghost use Rattle.std.specs.Prelude.{◌≡◌, length};
 ghost use Rattle.text.specs.Bytes.{start};
 ghost use Rattle.text.specs.Rows.{fields};
 
-// How many fields there are: one more than semicolons.
+// How many fields there are: one more than semicolons. A sum over all bytes: a count of those that a
+// filter lets through has a branch for each byte (docs/FIGURES.md).
 pub fn field_count(text: &[u8]) -> usize
     ensures { result ≡ length (fields text.now) }
 {
-    text.iter().filter(|b| **b == b';').count() + 1
+    text.iter().map(|b| usize::from(*b == b';')).sum::<usize>() + 1
 }
 
 // The offset of a field's first byte, counting fields from 1, or 0 for no field.

@@ -1,5 +1,5 @@
 -- Over at most 65,535 lives no sum of the position sheet wraps.
-use Rattle.std.proofs.Common.{◌≡◌, ℕ, suc, ◌+◌, ◌-◌, ◌*◌, ◌%◌, ◌^◌, ◌<◌, ◌≤◌, true, false, cond, ◌&&◌, eqb, ltb, leb, List, [], ◌∷◌, length, ℤ, pos, negsuc, ◌+ℤ◌, refl, ap, ◌∙◌, ⊎_elim, arith, w64, to_z}
+use Rattle.std.proofs.Common.{◌≡◌, ℕ, suc, ◌+◌, ◌-◌, ◌*◌, ◌%◌, ◌^◌, ◌<◌, ◌≤◌, true, false, cond, ◌&&◌, eqb, ltb, leb, List, [], ◌∷◌, length, ℤ, pos, negsuc, ◌+ℤ◌, neg_ℤ, sym, refl, ap, ◌∙◌, ⊎_elim, arith, w64, to_z}
 use lib.ListN.{length-map}
 use Rattle.std.specs.List.{AllByRecursion}
 use Rattle.std.proofs.lemmas.Int.{ints, to_z-of_z}
@@ -13,12 +13,14 @@ use Rattle.life.specs.declared.key.Key.{Key}
 use Rattle.life.specs.declared.life.Life.{Life}
 use Rattle.life.specs.declared.life.State.TheVariants.{Open, Cancelled}
 use Rattle.measure.specs.declared.sheet.Sheet.{Sheet}
-use Rattle.life.specs.Lives.{Pair, Lives, plain_pair, plain}
+use Rattle.measure.specs.Group.{Group}
+use Rattle.life.specs.Lives.{Pair, Lives, plain_pair, plain, Unique, Same}
 use Rattle.measure.specs.Totals.{while_open, share, total_of}
 use Rattle.measure.specs.Positions.{traded, brought, true_position, Within, all_within}
 use Rattle.measure.specs.Sheets.{cell, position_of, no_sheet, added, residue, sheet_weight}
-use Rattle.measure.specs.Laws.{cell_sheet}
+use Rattle.measure.specs.Laws.{cell_sheet, sheet_group}
 use Rattle.measure.proofs.Cells.{cell_past, cell_added, cell_none, residue_minus}
+use Rattle.measure.proofs.Sums.{total_same}
 
 -- the word n stands for z, which is the difference of two numbers of at most `most`
 record StandsFor (n : ℕ) (z : ℤ) (most : ℕ) : Type 0 where
@@ -127,3 +129,22 @@ plain_within ps = within_from (plain ps) (plain_all_within ps)
 
 pub exact_plain : (n : ℕ) (ps : List (Key × Life)) → length ps ≤ 65535 → (s : Sheet) → s ≡ total_of no_sheet added sheet_weight (plain ps) → position_of s n ≡ true_position n (plain ps)
 exact_plain n ps few s e = exact n (plain ps) (omega (arith, length-map ps plain_pair)) (plain_within ps) s e
+
+-- integers have the laws of joining
+integers : Group (pos 0) ◌+ℤ◌ neg_ℤ
+integers = record {
+  assoc = λ x y z. omega (arith, ints);
+  comm = λ x y. omega (arith, ints);
+  unit = λ x. omega (arith, ints);
+  undo = λ x. omega (arith, ints);
+}
+
+-- true positions do not depend on the order of a list
+pub position_same : (n : ℕ) (ps qs : Lives) → Unique ps → Unique qs → Same ps qs → true_position n ps ≡ true_position n qs
+position_same n = total_same integers (brought n)
+
+-- for a list with the look-ups of the pairs that code holds
+pub exact_as : (n : ℕ) (ps : List (Key × Life)) (ls : Lives) → length ps ≤ 65535 → Unique (plain ps) → Unique ls → Same (plain ps) ls →
+    (s : Sheet) → s ≡ total_of no_sheet added sheet_weight ls → position_of s n ≡ true_position n ls
+exact_as n ps ls few u w h s e =
+    exact_plain n ps few s (e ∙ sym (total_same sheet_group sheet_weight (plain ps) ls u w h)) ∙ position_same n (plain ps) ls u w h

@@ -150,6 +150,10 @@ sound_fits s c h = subst (λ n. n ≤ room_of s) (sym (pairs_length s c)) h.fits
 pub held : {s : List Entry} {c : ℕ} → Sound s c → Held s c
 held {s} {c} h = record { in_order = ∣ h ∣₁; apart = sound_unique s c h; within = sound_fits s c h }
 
+-- no entry in use is in order
+pub none_sound : (s : List Entry) → Sound s 0
+none_sound s = record { fits = omega arith; rising = λ i j l h. absurd (omega arith) }
+
 -- ---- what a change at one key leaves
 
 module _ (s : List Entry) (c : ℕ) (t : List Entry) (d : ℕ) (k : Key) (old : Sound s c) (new : Sound t d)

@@ -10,8 +10,9 @@ use Rattle.claims.specs.declared.claimed.Claim.{Claim}
 use Rattle.claims.specs.declared.faults.LineFault.{LineFault}
 use Rattle.claims.specs.Claims.{Claimed, claimed_by, claiming}
 use Rattle.claims.specs.Made.{claim_of, claim_in}
-use Rattle.book.specs.Book.{Book, Judge, Accepted, told_by, looking_rows, verdict, changed, answered, answer}
+use Rattle.book.specs.Book.{Book, AddContract, Judge, Accepted, told_by, looking_rows, verdict, changed, answered, answer}
 use Rattle.book.specs.Laws.{subject}
+use Rattle.book.proofs.Runs.{contracts_after}
 use Rattle.book.proofs.Tables.{Passed, passed, looking_parts}
 use Rattle.calls.specs.declared.answer.Given.TheVariants as given
 use Rattle.calls.specs.declared.call.Call.{Call as Asked}
@@ -112,3 +113,7 @@ judged_call b n bs m cs same e = record { marks = e; lists = sym same ∙ by (ve
     by : (v : Option (ℕ × ℕ)) → b.contracts ≡ (changed b (Judge n bs) v).contracts
     by None = refl
     by (Some r) = refl
+
+-- an added contract has no mark, and the contracts are those with it
+pub added_call : (b : Book) (bs : Bytes) (cs next : List Contract) → b.contracts ≡ cs → next ≡ contract_list.added cs bs → MarksCall b (AddContract bs) NoReportLine next
+added_call b bs cs next same e = record { marks = refl; lists = e ∙ ap (λ l. contract_list.added l bs) (sym same) ∙ sym (ap (λ d. d.contracts) (contracts_after bs b)) }

@@ -1,5 +1,5 @@
 -- A decimal, cut at its dot.
-use Rattle.std.proofs.Common.{◌≡◌, ℕ, Bool, ◌+◌, ◌-◌, ◌*◌, ◌^◌, ◌<◌, ◌≤◌, true, false, ◌&&◌, eqb, ltb, [], ◌∷◌, length, take, drop, Some, None, Option, sym, refl, ap, ◌∙◌, ⊎_elim, arith}
+use Rattle.std.proofs.Common.{◌≡◌, ℕ, zero, suc, Bool, List, slice_index, ◌+◌, ◌-◌, ◌*◌, ◌^◌, ◌<◌, ◌≤◌, true, false, ◌&&◌, eqb, ltb, [], ◌∷◌, length, take, drop, Some, None, Option, sym, refl, ap, ◌∙◌, ⊎_elim, arith}
 use Rattle.std.specs.Bool.{then_some}
 use Rattle.std.specs.Char.{is_ascii_digit}
 use Rattle.std.proofs.Math.Bool.{and-false}
@@ -109,3 +109,16 @@ module _ (most limit w : ℕ) (s : Bytes) (e : w ≡ span_to 46 s) where
 pub kept : (test : Bool) (n : ℕ) → then_some test n ≡ provided test n
 kept true n = refl
 kept false n = refl
+
+-- the table of powers of ten
+abbrev pub powers : List ℕ
+powers = 1 ∷ 10 ∷ 100 ∷ 1_000 ∷ 10_000 ∷ 100_000 ∷ []
+
+pub power_there : (k : ℕ) → k ≤ 5 → slice_index powers k ≡ 10 ^ k
+power_there zero l = refl
+power_there (suc zero) l = refl
+power_there (suc (suc zero)) l = refl
+power_there (suc (suc (suc zero))) l = refl
+power_there (suc (suc (suc (suc zero)))) l = refl
+power_there (suc (suc (suc (suc (suc zero))))) l = refl
+power_there (suc (suc (suc (suc (suc (suc k)))))) l = absurd (omega arith)

@@ -1,16 +1,20 @@
 // Lists of names: 0 to 8 of them, separated by commas, each formed like an id.
-ghost use Rattle.std.specs.Prelude.{◌≡◌, ◌+◌, [], length, drop, nat_le};
+ghost use Rattle.std.specs.Prelude.{◌≡◌, ◌+◌, [], length, take, drop};
+ghost use Rattle.std.specs.Bool.{OnTrue};
 ghost use Rattle.std.specs.Iterator.{YieldsFirstRef, item_count};
+ghost use Rattle.text.specs.Bytes.{every};
 ghost use Rattle.text.specs.Forms.{a_name, few_names, names_form};
 ghost use Rattle.text.specs.Listings.{listing, listing_in, first_name, first_in};
 
 use crate::codes::is_id;
 use crate::cuts::span_to;
 
-// The names in a part of a line: none, or those that its commas separate.
+/// The names in a part of a line: none, or those that its commas separate. Any text lists names;
+/// `of` takes those of the form alone.
 #[derive(Clone, Copy)]
 pub struct Names<'a> {
-    listed: Option<&'a [u8]>,
+    /// The text that lists them, with a comma between two, or none where there are no names.
+    pub listed: Option<&'a [u8]>,
 }
 
 const MOST_NAMES: usize = 8;
@@ -23,18 +27,29 @@ fn is_name(text: &[u8]) -> bool
     is_id(text, 1, LONGEST_NAME)
 }
 
-// At most eight names.
-fn are_few(mut names: Names) -> bool
-    ensures { result ≡ nat_le (length (listing names.entry)) 8 }
+// Whether the first eight names, or all where they are fewer, are formed like ids; then they are
+// gone past. A loop, and not `all` behind a `take`: no clause says what is left of an iterator that
+// is lent to a chain.
+fn are_formed(names: &mut Names) -> bool
+    ensures value { result ≡ every a_name (take 8 (listing names.old)) }
+    ensures past { OnTrue result (listing names.new ≡ drop 8 (listing names.old)) }
 {
-    names.nth(MOST_NAMES).is_none()
+    for _ in 0..MOST_NAMES {
+        let Some(name) = names.next() else {
+            return true;
+        };
+        if !is_name(name) {
+            return false;
+        }
+    }
+    true
 }
 
-// At most eight names, each formed like an id.
+// At most eight names, each formed like an id. Each name is looked at once.
 fn are_names(mut names: Names) -> bool
     ensures { result ≡ few_names 8 (listing names.entry) }
 {
-    are_few(names) && names.all(is_name)
+    are_formed(&mut names) && names.next().is_none()
 }
 
 impl<'a> Names<'a> {
@@ -83,8 +98,9 @@ impl<'a> Iterator for Names<'a> {
     ghost remaining = { item_count listing };
 
     fn next(&mut self) -> Option<&'a [u8]> {
-        let name = self.first()?;
-        *self = self.rest();
-        Some(name)
+        let text = self.listed?;
+        let n = span_to(text, b',');
+        self.listed = text.get(n + 1..);
+        Some(&text[..n])
     }
 }

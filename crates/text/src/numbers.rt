@@ -31,6 +31,10 @@ pub fn time_of(text: &[u8]) -> Option<u32>
     u32::try_from(digits_of(text, 10)?).ok()
 }
 
+// What the digits after a dot are scaled by. A table, and not `pow`, which is a loop: with it a
+// quantity and a price take a quarter longer (docs/FIGURES.md).
+const POWERS: [u64; 6] = [1, 10, 100, 1000, 10000, 100000];
+
 // One to `most` digits, and after a dot one to five more, at most `limit`: the hundred-thousandths.
 fn decimal_of(text: &[u8], most: usize, limit: u64) -> Option<u64>
     requires digits { most ≤ 8 }
@@ -46,8 +50,7 @@ fn decimal_of(text: &[u8], most: usize, limit: u64) -> Option<u64>
     }
     let rest = &text[w + 1..];
     let part = digits_of(rest, 5)?;
-    let scaled = part * 10u64.pow(5 - rest.len() as u32);
-    let sum = whole * 100000 + scaled;
+    let sum = whole * 100000 + part * POWERS[5 - rest.len()];
     (sum <= limit * 100000).then_some(sum)
 }
 
